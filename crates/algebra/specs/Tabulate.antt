@@ -1,0 +1,78 @@
+-- Lists given by their entries: f 0, f 1, .., f (n − 1). A buffer that a call fills is such a list, and so is what its loop has filled so far.
+use mathlib.Core.Path.{_≡_, refl, sym, ap, ap₂, _∙_, subst}
+use mathlib.Core.List.{List, [], _∷_, _++_, append-assoc, append-nil}
+use Prim.Native.Nat.{ℕ, zero, suc, _+_, _-_, _<_, _≤_}
+use native.Mathlib.Nat.{not-suc-le-zero, le-of-eq}
+use native.Mathlib.Decide.{decLt}
+use native.Mathlib.Numerals.{add-one}
+use native.Mathlib.Omega.{arith}
+use lib.ListN.{length, getD, drop, set, length-append, length-drop, drop-of-length-le, List·getD-append}
+use lib.Seq.{getD-at, getD-append-add, getD-drop, set-at, drop-cons, ext-getD}
+
+unfoldable pub tabulate : {A : Type 0} → ℕ → (ℕ → A) → List A
+tabulate zero f = []
+tabulate (suc n) f = tabulate n f ++ f n ∷ []
+
+module _ {A : Type 0} where
+  pub length-tabulate : (n : ℕ) (f : ℕ → A) → length (tabulate n f) ≡ n
+  unfolding tabulate
+  length-tabulate zero f = refl
+  length-tabulate (suc n) f = length-append (tabulate n f) (f n ∷ []) ∙ ap (λ (k : ℕ). k + 1) (length-tabulate n f) ∙ add-one n
+
+  pub getD-tabulate : (n : ℕ) (f : ℕ → A) (i : ℕ) (d : A) → i < n → getD (tabulate n f) i d ≡ f i
+  unfolding tabulate
+  getD-tabulate zero f i d h = absurd (not-suc-le-zero h)
+  getD-tabulate (suc n) f i d h = decided (decLt i n) (getD-tabulate n f i d)
+    where
+      decided : Dec (i < n) → (i < n → getD (tabulate n f) i d ≡ f i) → getD (tabulate n f ++ f n ∷ []) i d ≡ f i
+      decided (yes l) ih = List·getD-append (tabulate n f) (f n ∷ []) d i (subst (λ (k : ℕ). i < k) (sym (length-tabulate n f)) l) ∙ ih l
+      decided (no nl) ih =
+          let last : n ≡ i = omega arith in
+          getD-at (tabulate n f) (f n) [] d i (length-tabulate n f ∙ last) ∙ ap f last
+
+  pub tabulate-cong : (n : ℕ) {f g : ℕ → A} → ((i : ℕ) → i < n → f i ≡ g i) → tabulate n f ≡ tabulate n g
+  unfolding tabulate
+  tabulate-cong zero h = refl
+  tabulate-cong (suc n) h = ap₂ (λ (l : List A) (x : A). l ++ x ∷ []) (tabulate-cong n (λ i l. h i (omega arith))) (h n (omega arith))
+
+  pub tabulate-getD : (l : List A) (d : A) → tabulate (length l) (λ i. getD l i d) ≡ l
+  tabulate-getD l d =
+      ext-getD d (tabulate (length l) (λ i. getD l i d)) l (length-tabulate (length l) (λ i. getD l i d))
+      (λ i h. getD-tabulate (length l) (λ i. getD l i d) i d (subst (λ (k : ℕ). i < k) (length-tabulate (length l) (λ i. getD l i d)) h))
+
+  -- ---- a loop that stores f i at i: what is filled, and what is still as it was
+
+  unfoldable pub filled : (ℕ → A) → ℕ → List A → List A
+  filled f i old = tabulate i f ++ drop i old
+
+  pub filled-start : (f : ℕ → A) (old : List A) → old ≡ filled f 0 old
+  unfolding filled tabulate
+  filled-start f old = refl
+
+  pub filled-turn : (f : ℕ → A) (i : ℕ) (old : List A) → i < length old → set (filled f i old) i (f i) ≡ filled f (i + 1) old
+  unfolding filled tabulate
+  filled-turn f i old h =
+      ap (λ (l : List A). set (tabulate i f ++ l) i (f i)) (drop-cons old i (f i) h)
+      ∙ set-at (tabulate i f) (getD old i (f i)) (drop (suc i) old) (f i) i (length-tabulate i f)
+      ∙ sym (append-assoc (tabulate i f) (f i ∷ []) (drop (suc i) old))
+      ∙ ap (λ (k : ℕ). tabulate k f ++ drop k old) (sym (add-one i))
+
+  pub filled-end : (f : ℕ → A) (n : ℕ) (old : List A) → length old ≡ n → filled f n old ≡ tabulate n f
+  unfolding filled
+  filled-end f n old h =
+      ap (λ (l : List A). tabulate n f ++ l) (drop-of-length-le old (le-of-eq h)) ∙ append-nil (tabulate n f)
+
+  pub length-filled : (f : ℕ → A) (i : ℕ) (old : List A) → i ≤ length old → length (filled f i old) ≡ length old
+  unfolding filled
+  length-filled f i old h = length-append (tabulate i f) (drop i old) ∙ ap₂ (λ (x y : ℕ). x + y) (length-tabulate i f) (length-drop i old) ∙ omega arith
+
+  -- what is not yet filled is still there
+  pub getD-filled : (f : ℕ → A) (i : ℕ) (old : List A) (j : ℕ) (d : A) → i ≤ j → getD (filled f i old) j d ≡ getD old j d
+  unfolding filled
+  getD-filled f i old j d h =
+      let apart : length (tabulate i f) + (j - i) ≡ j = ap (λ (k : ℕ). k + (j - i)) (length-tabulate i f) ∙ together in
+      ap (λ (k : ℕ). getD (tabulate i f ++ drop i old) k d) (sym apart) ∙ getD-append-add (tabulate i f) (drop i old) (j - i) d
+      ∙ getD-drop i old (j - i) d ∙ ap (λ (k : ℕ). getD old k d) together
+    where
+      together : i + (j - i) ≡ j
+      together = omega arith

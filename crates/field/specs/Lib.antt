@@ -1,0 +1,10 @@
+pub mod Product
+pub mod Horner
+pub mod Ring
+pub mod Division
+pub mod Inverse
+pub mod Words
+pub mod Test
+pub mod Gf
+pub mod Rules
+pub mod Answers

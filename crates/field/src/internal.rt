@@ -1,0 +1,55 @@
+// Field arithmetic for callers that know their numbers to be in range: m a width of the table, elements below 2^m.
+use crate::Elem;
+ghost use mathlib.Core.Path.{_≡_};
+ghost use Prim.Native.Nat.{_<_, _^_};
+ghost use Rattle.field.specs.Words.{word};
+ghost use Rattle.field.specs.Horner.{timesU};
+ghost use Rattle.field.specs.Product.{product, inverse};
+ghost use Rattle.field.specs.Gf.{Width};
+
+pub const NARROWEST: u32 = 2;
+
+pub const WIDEST: u32 = 8;
+
+// The reduction word of each width, at the width: bit i is the coefficient of u^i. There is none for widths 0 and 1.
+const WORDS: [u32; WIDEST as usize + 1] = [0, 0, 0x7, 0xB, 0x13, 0x25, 0x43, 0x83, 0x11D];
+
+// u times an element: shifted, and the word taken away once if the bit of u^m ran over. There is no branch, so that every product takes the
+// same steps.
+fn times_u(m: u32, a: u32) -> u32
+    requires { ⌜ Width m × (a < 2 ^ m) ⌝ }
+    ensures { λ r. ⌜ (r ≡ timesU m (word m) a) × (r < 2 ^ m) ⌝ }
+{
+    let shifted = a * 2;
+    shifted ^ (shifted >> m) * WORDS[m as usize]
+}
+
+// a·b: the sum of a·u^i over the bits i of b.
+pub fn product(m: u32, a: Elem, b: Elem) -> Elem
+    requires { ⌜ Width m × (a < 2 ^ m) × (b < 2 ^ m) ⌝ }
+    ensures { λ r. ⌜ (r ≡ product m (word m) a b) × (r < 2 ^ m) ⌝ }
+{
+    let mut sum: u32 = 0;
+    let mut shifted = a as u32;
+    let mut bits = b as u32;
+    for _ in 0..m {
+        sum ^= bits % 2 * shifted;
+        shifted = times_u(m, shifted);
+        bits /= 2;
+    }
+    sum as Elem
+}
+
+// a^(2^m − 2), which is the inverse of every element but 0: the product of a², a⁴, .., a^(2^(m−1)).
+pub fn inverse(m: u32, a: Elem) -> Elem
+    requires { ⌜ Width m × (a < 2 ^ m) ⌝ }
+    ensures { λ r. ⌜ (r ≡ inverse m (word m) a) × (r < 2 ^ m) ⌝ }
+{
+    let mut squared = a;
+    let mut result: Elem = 1;
+    for _ in 1..m {
+        squared = product(m, squared, squared);
+        result = product(m, result, squared);
+    }
+    result
+}
