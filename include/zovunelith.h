@@ -1,15 +1,21 @@
 /* The C interface. Every function is proved, in the crate capi, to answer what its definition says, for all input.
  *
  * A function returns 0 or more, which is its value, or minus the number of the refusal (the table in README.md).
- * Any value of a number may come in: what is out of range is refused, and nothing is undefined. */
+ * Any value of a number may come in: what is out of range is refused, and nothing is undefined. A pointer goes with
+ * the number of its elements, points to that many, and does not overlap a buffer that is written. Buffers are written
+ * only where the value is 0 or more. */
 #ifndef ZOVUNELITH_H
 #define ZOVUNELITH_H
 
+#include <stddef.h>
 #include <stdint.h>
 
 #ifdef __cplusplus
 extern "C" {
 #endif
+
+/* An element of a field. */
+typedef uint8_t zov_elem;
 
 /* The field of 2^m elements, m from 2 to 8. Refused by 1 (m), then 3 (an element of 2^m or more). */
 int32_t zov_field_sum(uint32_t m, uint32_t a, uint32_t b);
@@ -17,6 +23,23 @@ int32_t zov_field_product(uint32_t m, uint32_t a, uint32_t b);
 
 /* Refused by 1, 3, then 4 (the inverse of zero). */
 int32_t zov_field_inverse(uint32_t m, uint32_t a);
+
+/* Dyadic blocks: signatures of s elements, s a power of two from 1 to 128; `out` has s elements too. The value is 0.
+ * Refused by 1, 2 (lengths), 3, and the inverse by 9 (the elements sum to zero). */
+int32_t zov_block_sum(uint32_t m, const zov_elem *a, size_t a_length, const zov_elem *b, size_t b_length,
+                      zov_elem *out, size_t out_length);
+int32_t zov_block_product(uint32_t m, const zov_elem *a, size_t a_length, const zov_elem *b, size_t b_length,
+                          zov_elem *out, size_t out_length);
+int32_t zov_block_inverse(uint32_t m, const zov_elem *a, size_t a_length, zov_elem *out, size_t out_length);
+
+/* A code's parameters: width m, length n, t roots, offset omega, signature h of n elements. Refused by 1 to 7.
+ * zov_check writes n roots and n support elements; the value is 0. */
+int32_t zov_check(uint32_t m, uint32_t n, uint32_t t, uint32_t omega, const zov_elem *h, size_t h_length,
+                  zov_elem *roots, size_t roots_length, zov_elem *support, size_t support_length);
+
+/* 1 if m, n, t and h of two codes agree, and 0 if not; refused by the lower number of both codes. */
+int32_t zov_same(uint32_t m1, uint32_t n1, uint32_t t1, uint32_t omega1, const zov_elem *h1, size_t h1_length,
+                 uint32_t m2, uint32_t n2, uint32_t t2, uint32_t omega2, const zov_elem *h2, size_t h2_length);
 
 #ifdef __cplusplus
 }

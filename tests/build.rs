@@ -16,9 +16,6 @@ fn main() {
         println!("cargo:rustc-link-lib=static=capi");
     } else {
         // The second implementation's own tests (`cargo test --lib`) need no archive.
-        println!(
-            "cargo:warning={} is missing: only `cargo test --lib` can link",
-            archive.display()
-        );
+        println!("cargo:warning={} is missing: only `cargo test --lib` can link", archive.display());
     }
 }

@@ -33,3 +33,116 @@ pub mod field {
         answer(unsafe { zov_field_inverse(m, a) })
     }
 }
+
+/// Sum, product and inverse of dyadic blocks.
+pub mod block {
+    use super::answer;
+    use crate::Elem;
+
+    extern "C" {
+        fn zov_block_sum(
+            m: u32,
+            a: *const Elem,
+            a_length: usize,
+            b: *const Elem,
+            b_length: usize,
+            out: *mut Elem,
+            out_length: usize,
+        ) -> i32;
+        fn zov_block_product(
+            m: u32,
+            a: *const Elem,
+            a_length: usize,
+            b: *const Elem,
+            b_length: usize,
+            out: *mut Elem,
+            out_length: usize,
+        ) -> i32;
+        fn zov_block_inverse(m: u32, a: *const Elem, a_length: usize, out: *mut Elem, out_length: usize) -> i32;
+    }
+
+    pub fn sum(m: u32, a: &[Elem], b: &[Elem], out: &mut [Elem]) -> Result<u32, u32> {
+        // SAFETY: each pointer goes with the length of its slice; only slices that are read can overlap.
+        answer(unsafe { zov_block_sum(m, a.as_ptr(), a.len(), b.as_ptr(), b.len(), out.as_mut_ptr(), out.len()) })
+    }
+
+    pub fn product(m: u32, a: &[Elem], b: &[Elem], out: &mut [Elem]) -> Result<u32, u32> {
+        // SAFETY: each pointer goes with the length of its slice; only slices that are read can overlap.
+        answer(unsafe { zov_block_product(m, a.as_ptr(), a.len(), b.as_ptr(), b.len(), out.as_mut_ptr(), out.len()) })
+    }
+
+    pub fn inverse(m: u32, a: &[Elem], out: &mut [Elem]) -> Result<u32, u32> {
+        // SAFETY: each pointer goes with the length of its slice, and no two slices overlap.
+        answer(unsafe { zov_block_inverse(m, a.as_ptr(), a.len(), out.as_mut_ptr(), out.len()) })
+    }
+}
+
+/// Checking a code and comparing two.
+pub mod params {
+    use super::answer;
+    use crate::Elem;
+
+    extern "C" {
+        fn zov_check(
+            m: u32,
+            n: u32,
+            t: u32,
+            omega: u32,
+            h: *const Elem,
+            h_length: usize,
+            roots: *mut Elem,
+            roots_length: usize,
+            support: *mut Elem,
+            support_length: usize,
+        ) -> i32;
+        fn zov_same(
+            m1: u32,
+            n1: u32,
+            t1: u32,
+            omega1: u32,
+            h1: *const Elem,
+            h1_length: usize,
+            m2: u32,
+            n2: u32,
+            t2: u32,
+            omega2: u32,
+            h2: *const Elem,
+            h2_length: usize,
+        ) -> i32;
+    }
+
+    pub fn check(
+        (m, n, t, omega): (u32, u32, u32, u32),
+        h: &[Elem],
+        roots: &mut [Elem],
+        support: &mut [Elem],
+    ) -> Result<u32, u32> {
+        // SAFETY: each pointer goes with the length of its slice, and no two slices overlap.
+        answer(unsafe {
+            zov_check(
+                m,
+                n,
+                t,
+                omega,
+                h.as_ptr(),
+                h.len(),
+                roots.as_mut_ptr(),
+                roots.len(),
+                support.as_mut_ptr(),
+                support.len(),
+            )
+        })
+    }
+
+    pub fn same(
+        (m1, n1, t1, omega1): (u32, u32, u32, u32),
+        h1: &[Elem],
+        (m2, n2, t2, omega2): (u32, u32, u32, u32),
+        h2: &[Elem],
+    ) -> Result<u32, u32> {
+        // SAFETY: each pointer goes with the length of its slice; both slices are only read.
+        answer(unsafe {
+            zov_same(m1, n1, t1, omega1, h1.as_ptr(), h1.len(), m2, n2, t2, omega2, h2.as_ptr(), h2.len())
+        })
+    }
+}

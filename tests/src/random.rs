@@ -68,10 +68,7 @@ impl Drop for Random {
 /// The number that an environment variable holds, if it is set.
 pub fn number_from_environment(name: &str) -> Option<u64> {
     let text = env::var(name).ok()?;
-    Some(
-        text.parse()
-            .unwrap_or_else(|_| panic!("{name} is to be a number, not {text:?}")),
-    )
+    Some(text.parse().unwrap_or_else(|_| panic!("{name} is to be a number, not {text:?}")))
 }
 
 #[cfg(test)]
@@ -80,10 +77,7 @@ mod tests {
 
     #[test]
     fn splitmix_gives_its_published_numbers() {
-        let mut random = Random {
-            state: 1234567,
-            seed: 1234567,
-        };
+        let mut random = Random { state: 1234567, seed: 1234567 };
         assert_eq!(random.draw(), 6457827717110365317);
         assert_eq!(random.draw(), 3203168211198807973);
         assert_eq!(random.draw(), 9817491932198370423);

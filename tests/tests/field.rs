@@ -1,52 +1,24 @@
 //! Sum, product and inverse of elements, against carry-less multiplication and exhaustive search.
 
-use zovunelith_tests::ffi::field as product;
+use zovunelith_tests::ffi::field as library;
 use zovunelith_tests::random::Random;
 use zovunelith_tests::reference::field as reference;
 
 /// Widths outside the table, among them ones that a cut to fewer bits would bring back in.
-const BAD_WIDTHS: [u32; 14] = [
-    0,
-    1,
-    9,
-    10,
-    16,
-    31,
-    32,
-    33,
-    64 + 5,
-    255,
-    256 + 5,
-    65536 + 5,
-    1 << 31,
-    u32::MAX,
-];
+const BAD_WIDTHS: [u32; 14] = [0, 1, 9, 10, 16, 31, 32, 33, 64 + 5, 255, 256 + 5, 65536 + 5, 1 << 31, u32::MAX];
 
 /// Elements of q or more, among them ones that a cut to fewer bits would bring back in.
 fn strangers(m: u32) -> Vec<u32> {
     let q = reference::size(m);
-    let mut strangers = vec![
-        q,
-        q + 1,
-        2 * q - 1,
-        2 * q,
-        255,
-        256,
-        257,
-        65535,
-        65536,
-        65537,
-        1 << 31,
-        u32::MAX,
-    ];
+    let mut strangers = vec![q, q + 1, 2 * q - 1, 2 * q, 255, 256, 257, 65535, 65536, 65537, 1 << 31, u32::MAX];
     strangers.retain(|&element| element >= q);
     strangers
 }
 
 #[test]
 fn cases() {
-    assert_eq!(product::product(5, 2, 16), Ok(5));
-    assert_eq!(product::inverse(5, 12), Ok(7));
+    assert_eq!(library::product(5, 2, 16), Ok(5));
+    assert_eq!(library::inverse(5, 12), Ok(7));
 }
 
 #[test]
@@ -54,16 +26,8 @@ fn sums_and_products_of_all_pairs() {
     for (m, _) in reference::WORDS {
         for a in 0..reference::size(m) {
             for b in 0..reference::size(m) {
-                assert_eq!(
-                    product::sum(m, a, b),
-                    reference::sum(m, a, b),
-                    "width {m}: {a} plus {b}"
-                );
-                assert_eq!(
-                    product::product(m, a, b),
-                    reference::product(m, a, b),
-                    "width {m}: {a} times {b}"
-                );
+                assert_eq!(library::sum(m, a, b), reference::sum(m, a, b), "width {m}: {a} plus {b}");
+                assert_eq!(library::product(m, a, b), reference::product(m, a, b), "width {m}: {a} times {b}");
             }
         }
     }
@@ -73,13 +37,9 @@ fn sums_and_products_of_all_pairs() {
 fn inverses_of_all_elements() {
     for (m, _) in reference::WORDS {
         for a in 0..reference::size(m) {
-            assert_eq!(
-                product::inverse(m, a),
-                reference::inverse(m, a),
-                "width {m}: inverse of {a}"
-            );
+            assert_eq!(library::inverse(m, a), reference::inverse(m, a), "width {m}: inverse of {a}");
         }
-        assert_eq!(product::inverse(m, 0), Err(4), "width {m}");
+        assert_eq!(library::inverse(m, 0), Err(4), "width {m}");
     }
 }
 
@@ -88,14 +48,8 @@ fn inverses_of_all_elements() {
 fn every_nonzero_element_has_exactly_one_inverse() {
     for (m, _) in reference::WORDS {
         for a in 1..reference::size(m) {
-            let inverses: Vec<u32> = (0..reference::size(m))
-                .filter(|&b| product::product(m, a, b) == Ok(1))
-                .collect();
-            assert_eq!(
-                inverses,
-                [product::inverse(m, a).expect("an inverse")],
-                "width {m}: {a}"
-            );
+            let inverses: Vec<u32> = (0..reference::size(m)).filter(|&b| library::product(m, a, b) == Ok(1)).collect();
+            assert_eq!(inverses, [library::inverse(m, a).expect("an inverse")], "width {m}: {a}");
         }
     }
 }
@@ -104,8 +58,8 @@ fn every_nonzero_element_has_exactly_one_inverse() {
 fn laws_hold_for_random_elements() {
     let mut random = Random::new(101);
     for (m, _) in reference::WORDS {
-        let sum = |a, b| product::sum(m, a, b).expect("elements");
-        let times = |a, b| product::product(m, a, b).expect("elements");
+        let sum = |a, b| library::sum(m, a, b).expect("elements");
+        let times = |a, b| library::product(m, a, b).expect("elements");
         for _ in 0..2000 {
             let [a, b, c] = [0; 3].map(|_: u32| random.below(reference::size(m) as usize) as u32);
             assert_eq!(sum(a, b), sum(b, a), "width {m}: {a} {b}");
@@ -113,11 +67,7 @@ fn laws_hold_for_random_elements() {
             assert_eq!((sum(a, 0), sum(a, a)), (a, 0), "width {m}: {a}");
             assert_eq!(times(a, b), times(b, a), "width {m}: {a} {b}");
             assert_eq!(times(a, times(b, c)), times(times(a, b), c), "width {m}: {a} {b} {c}");
-            assert_eq!(
-                times(a, sum(b, c)),
-                sum(times(a, b), times(a, c)),
-                "width {m}: {a} {b} {c}"
-            );
+            assert_eq!(times(a, sum(b, c)), sum(times(a, b), times(a, c)), "width {m}: {a} {b} {c}");
             assert_eq!((times(a, 1), times(a, 0)), (a, 0), "width {m}: {a}");
         }
     }
@@ -128,10 +78,10 @@ fn laws_hold_for_random_elements() {
 fn widths_outside_the_table() {
     for m in BAD_WIDTHS {
         for a in [0, 1, 2, 3, 4, 31, 255, 256, 512, 65536, 1 << 31, u32::MAX] {
-            assert_eq!(product::inverse(m, a), Err(1), "width {m}: inverse of {a}");
+            assert_eq!(library::inverse(m, a), Err(1), "width {m}: inverse of {a}");
             for b in [0, 1, 3, 255, 256, u32::MAX] {
-                assert_eq!(product::sum(m, a, b), Err(1), "width {m}: {a} plus {b}");
-                assert_eq!(product::product(m, a, b), Err(1), "width {m}: {a} times {b}");
+                assert_eq!(library::sum(m, a, b), Err(1), "width {m}: {a} plus {b}");
+                assert_eq!(library::product(m, a, b), Err(1), "width {m}: {a} times {b}");
             }
         }
     }
@@ -142,15 +92,11 @@ fn widths_outside_the_table() {
 fn strangers_on_either_side() {
     for (m, _) in reference::WORDS {
         for stranger in strangers(m) {
-            assert_eq!(
-                product::inverse(m, stranger),
-                Err(3),
-                "width {m}: inverse of {stranger}"
-            );
+            assert_eq!(library::inverse(m, stranger), Err(3), "width {m}: inverse of {stranger}");
             for other in [0, 1, reference::size(m) - 1, stranger, u32::MAX] {
                 for (a, b) in [(stranger, other), (other, stranger)] {
-                    assert_eq!(product::sum(m, a, b), Err(3), "width {m}: {a} plus {b}");
-                    assert_eq!(product::product(m, a, b), Err(3), "width {m}: {a} times {b}");
+                    assert_eq!(library::sum(m, a, b), Err(3), "width {m}: {a} plus {b}");
+                    assert_eq!(library::product(m, a, b), Err(3), "width {m}: {a} times {b}");
                 }
             }
         }
@@ -163,20 +109,8 @@ fn any_numbers_at_all() {
     for _ in 0..20_000 {
         // Few bits as often as many, so that widths and elements in and out of range meet.
         let [m, a, b] = [0; 3].map(|_: u32| (random.draw() as u32) >> random.below(32));
-        assert_eq!(
-            product::sum(m, a, b),
-            reference::sum(m, a, b),
-            "width {m}: {a} plus {b}"
-        );
-        assert_eq!(
-            product::product(m, a, b),
-            reference::product(m, a, b),
-            "width {m}: {a} times {b}"
-        );
-        assert_eq!(
-            product::inverse(m, a),
-            reference::inverse(m, a),
-            "width {m}: inverse of {a}"
-        );
+        assert_eq!(library::sum(m, a, b), reference::sum(m, a, b), "width {m}: {a} plus {b}");
+        assert_eq!(library::product(m, a, b), reference::product(m, a, b), "width {m}: {a} times {b}");
+        assert_eq!(library::inverse(m, a), reference::inverse(m, a), "width {m}: inverse of {a}");
     }
 }

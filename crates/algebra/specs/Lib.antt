@@ -1,6 +1,10 @@
 pub mod Xor
 pub mod Field
+pub mod Bits
 pub mod Sum
 pub mod Poly
 pub mod Tabulate
+pub mod Splice
 pub mod All
+pub mod Echelon
+pub mod Elimination

@@ -76,3 +76,37 @@ module _ {A : Type 0} where
     where
       together : i + (j - i) ≡ j
       together = omega arith
+
+  -- ---- the same as an invariant: `now` is what the loop has made of `old`, of n entries, when i are filled
+
+  pub record Filling (f : ℕ → A) (n : ℕ) (old now : List A) (i : ℕ) : Type 0 where
+    pub bound : i ≤ n
+    pub long : length old ≡ n
+    pub so-far : now ≡ filled f i old
+
+  pub filling-start : (f : ℕ → A) (n : ℕ) (old : List A) → length old ≡ n → Filling f n old old 0
+  filling-start f n old h = record { bound = omega arith; long = h; so-far = filled-start f old }
+
+  module _ {f : ℕ → A} {n : ℕ} {old now : List A} {i : ℕ} (F : Filling f n old now i) where
+    pub filling-length : length now ≡ length old
+    filling-length = ap length (F .so-far) ∙ length-filled f i old (subst (λ (k : ℕ). i ≤ k) (sym (F .long)) (F .bound))
+
+    pub filling-index : i < n → i < length now
+    filling-index l = subst (λ (k : ℕ). i < k) (sym (filling-length ∙ F .long)) l
+
+    pub filling-turn : {v : A} → i < n → v ≡ f i → Filling f n old (set now i v) (i + 1)
+    filling-turn {v} l e =
+        record {
+          bound = omega arith;
+          long = F .long;
+          so-far = ap₂ (λ (x : List A) (y : A). set x i y) (F .so-far) e ∙ filled-turn f i old (subst (λ (k : ℕ). i < k) (sym (F .long)) l);
+        }
+
+    -- what is not yet filled is still there
+    pub filling-old : (j : ℕ) (d : A) → i ≤ j → getD now j d ≡ getD old j d
+    filling-old j d h = ap (λ (l : List A). getD l j d) (F .so-far) ∙ getD-filled f i old j d h
+
+    pub filling-end : n ≤ i → now ≡ tabulate n f
+    filling-end h =
+        let whole : i ≡ n = omega (arith, F .bound) in
+        F .so-far ∙ ap (λ (k : ℕ). filled f k old) whole ∙ filled-end f n old (F .long)

@@ -1,12 +1,33 @@
 -- How an answer crosses into C, which has no enum: an int32_t that is the value, or minus the refusal's number.
 -- The prover's numbers are natural, so minus n is its pattern of 32 bits, 2^32 − n.
+use mathlib.Core.List.{List}
 use Prim.Native.Nat.{ℕ, _-_, _%_, _^_}
 use Rattle.field.specs.declared.Answer.{Answer}
-use Rattle.field.specs.declared.Answer.the-variants.{Element, Refused}
+use Rattle.field.specs.declared.Answer.the-variants.{Element, Refused as NoElement}
+use Rattle.slices.specs.declared.Outcome.{Outcome}
+use Rattle.slices.specs.declared.Outcome.the-variants.{Done, Refused}
+use Rattle.params.specs.declared.Sameness.{Sameness}
+use Rattle.params.specs.declared.Sameness.the-variants.{Same, Different, Refused as NotCompared}
 
 abbrev pub minus : ℕ → ℕ
 minus n = (2 ^ 32 - n) % 2 ^ 32
 
 abbrev pub elementCode : Answer → ℕ
 elementCode (Element a) = a
-elementCode (Refused n) = minus n
+elementCode (NoElement n) = minus n
+
+abbrev pub outcomeCode : Outcome → ℕ
+outcomeCode Done = 0
+outcomeCode (Refused n) = minus n
+
+abbrev pub samenessCode : Sameness → ℕ
+samenessCode Same = 1
+samenessCode Different = 0
+samenessCode (NotCompared n) = minus n
+
+-- a number with the buffer that goes with it
+abbrev pub paired : ℕ → List ℕ → ℕ × List ℕ
+paired r out = (r, out)
+
+abbrev pub coded : Outcome × List ℕ → ℕ × List ℕ
+coded a = paired (outcomeCode (a .0)) (a .1)

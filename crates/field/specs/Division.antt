@@ -8,7 +8,8 @@ use lib.Arith.{digits-div, digits-mod}
 use lib.Pow.{pow-pos, pow-mono}
 use Rattle.algebra.specs.Xor.{_⊕_, xor, ⊕-self, ⊕-zero, zero-⊕, ⊕-block, ⊕-lt, ⊕-eq}
 use Rattle.field.specs.Product.{polyProduct, cutBack, remainder, product}
-use Rattle.field.specs.Horner.{bit-cases, timesU, timesU-zero}
+use Rattle.algebra.specs.Bits.{bit-cases}
+use Rattle.field.specs.Horner.{timesU, timesU-zero}
 use Rattle.field.specs.Ring.{Degree, remainder-⊕, remainder-small, remainder-double, bit-lt, product-lt}
 
 two-pos : 0 < 2

@@ -6,33 +6,9 @@ use mathlib.Core.Path.{_≡_, refl, sym, ap, ap₂, _∙_, subst}
 use Prim.Native.Nat.{ℕ, zero, suc, _+_, _*_, _/_, _%_, _^_, _≤_, _<_}
 use native.Mathlib.Nat.{zero-mul, one-mul, mod-lt, zero-lt-suc, add-zero}
 use native.Mathlib.Omega.{arith}
+use Rattle.algebra.specs.Bits.{bit-cases, bit-⊕, ⊕-bit, ⊕-double}
 use Rattle.algebra.specs.Xor.{_⊕_, xor, ⊕-self, ⊕-zero, zero-⊕, ⊕-block, ⊕-div, ⊕-mod}
 use Rattle.field.specs.Product.{polyProduct, cutBack, remainder, product}
-
--- ---- bits: numbers below two, as factors
-
--- what holds at 0 and at 1 holds at every remainder by two
-pub bit-cases : (P : ℕ → Type 0) → P 0 → P 1 → (b : ℕ) → P (b % 2)
-bit-cases P p0 p1 b = below (b % 2) (mod-lt b (zero-lt-suc 1))
-  where
-    below : (x : ℕ) → x < 2 → P x
-    below zero h = p0
-    below (suc zero) h = p1
-    below (suc (suc x)) h = absurd (omega arith)
-
-bit-⊕ : (b x y : ℕ) → (b % 2) * (x ⊕ y) ≡ (b % 2) * x ⊕ (b % 2) * y
-bit-⊕ b x y = bit-cases (λ (s : ℕ). s * (x ⊕ y) ≡ s * x ⊕ s * y) (simp (zero-mul, xor)) (simp one-mul) b
-
-pub ⊕-bit : (b c x : ℕ) → ((b ⊕ c) % 2) * x ≡ (b % 2) * x ⊕ (c % 2) * x
-⊕-bit b c x =
-    ap (λ (s : ℕ). s * x) (⊕-mod b c 1)
-    ∙ bit-cases (λ (s : ℕ). (s ⊕ (c % 2)) * x ≡ s * x ⊕ (c % 2) * x) (simp (zero-mul, zero-⊕))
-    (bit-cases (λ (s : ℕ). (1 ⊕ s) * x ≡ 1 * x ⊕ s * x) (simp (zero-mul, ⊕-zero)) (ap (λ (s : ℕ). s * x) (⊕-self 1) ∙ simp (zero-mul, ⊕-self)) c) b
-
-pub ⊕-double : (a b : ℕ) → (a ⊕ b) * 2 ≡ a * 2 ⊕ b * 2
-⊕-double a b =
-    sym (add-zero ((a ⊕ b) * 2)) ∙ ap (λ (x : ℕ). (a ⊕ b) * 2 + x) (sym (⊕-self 0)) ∙ sym (⊕-block 1 a b 0 0 (zero-lt-suc 1) (zero-lt-suc 1))
-    ∙ ap₂ (λ (x y : ℕ). x ⊕ y) (add-zero (a * 2)) (add-zero (b * 2))
 
 -- two sums of two, added
 pub ⊕-pairs : {p q : ℕ} (r s r′ s′ : ℕ) → p ≡ r ⊕ s → q ≡ r′ ⊕ s′ → p ⊕ q ≡ (r ⊕ r′) ⊕ (s ⊕ s′)

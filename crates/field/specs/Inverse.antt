@@ -13,7 +13,8 @@ use lib.Pow.{pow-pos, pow-mono}
 use lib.Dec.{lit<}
 use Rattle.algebra.specs.Xor.{_⊕_, xor, ⊕-self, ⊕-zero, zero-⊕, ⊕-lt}
 use Rattle.field.specs.Product.{product, squares, inverse}
-use Rattle.field.specs.Horner.{bit-cases, timesU, timesU-⊕, horner, horner-timesU}
+use Rattle.algebra.specs.Bits.{bit-cases}
+use Rattle.field.specs.Horner.{timesU, horner, horner-timesU}
 use Rattle.field.specs.Ring.{Degree, timesU-lt, horner-one, product-lt, product-comm, product-assoc, product-⊕, product-one, product-u}
 
 module _ (m w : ℕ) where

@@ -10,7 +10,8 @@ use lib.Dec.{lit<}
 use lib.Pow.{pow-pos, pow-mono, mod-pow-add, high, split}
 use Rattle.algebra.specs.Xor.{_⊕_, xor, ⊕-self, ⊕-zero, zero-⊕, ⊕-comm, ⊕-lt, ⊕-block, ⊕-shifted, ⊕-div, ⊕-mod}
 use Rattle.field.specs.Product.{polyProduct, cutBack, remainder, product}
-use Rattle.field.specs.Horner.{bit-cases, ⊕-bit, ⊕-double, ⊕-pairs, timesU, timesU-⊕, timesU-zero, horner, horner-⊕, ⊕-horner, horner-comm, cutBack-⊕}
+use Rattle.algebra.specs.Bits.{bit-cases}
+use Rattle.field.specs.Horner.{timesU, timesU-zero, horner, ⊕-horner, horner-comm, cutBack-⊕}
 
 -- a word of degree m, as a number: its bit m is the highest
 pub record Degree (m w : ℕ) : Type 0 where

@@ -7,15 +7,7 @@ use crate::Elem;
 use std::sync::OnceLock;
 
 /// Each width with its reduction word.
-pub const WORDS: [(u32, u32); 7] = [
-    (2, 0x7),
-    (3, 0xB),
-    (4, 0x13),
-    (5, 0x25),
-    (6, 0x43),
-    (7, 0x83),
-    (8, 0x11D),
-];
+pub const WORDS: [(u32, u32); 7] = [(2, 0x7), (3, 0xB), (4, 0x13), (5, 0x25), (6, 0x43), (7, 0x83), (8, 0x11D)];
 
 /// The reduction word of a width; none for a width that the table does not name.
 pub fn word(m: u32) -> Option<u32> {
@@ -30,9 +22,7 @@ pub fn size(m: u32) -> u32 {
 
 /// The product of two polynomials over the bits.
 fn carryless_product(a: u64, b: u64) -> u64 {
-    (0..Elem::BITS)
-        .filter(|i| b >> i & 1 == 1)
-        .fold(0, |sum, i| sum ^ a << i)
+    (0..Elem::BITS).filter(|i| b >> i & 1 == 1).fold(0, |sum, i| sum ^ a << i)
 }
 
 /// The remainder of a polynomial over the bits, by long division.
@@ -53,10 +43,7 @@ struct Tables {
 
 fn tables(m: u32) -> &'static Tables {
     static TABLES: [OnceLock<Tables>; WORDS.len()] = [const { OnceLock::new() }; WORDS.len()];
-    let row = WORDS
-        .iter()
-        .position(|entry| entry.0 == m)
-        .expect("a width of the table");
+    let row = WORDS.iter().position(|entry| entry.0 == m).expect("a width of the table");
     TABLES[row].get_or_init(|| {
         let (q, word) = (u64::from(size(m)), u64::from(WORDS[row].1));
         let product = |a, b| remainder(carryless_product(a, b), word) as Elem;

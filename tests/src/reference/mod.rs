@@ -1,4 +1,6 @@
 //! The second implementation. Each call takes what the product's call takes, with the lengths of the buffers for its
 //! results instead of the buffers, and gives either what is to be written or the refusal's number.
 
+pub mod block;
 pub mod field;
+pub mod params;

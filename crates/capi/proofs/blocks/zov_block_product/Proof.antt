@@ -1,0 +1,26 @@
+-- `zov_block_product` meets its contract: the outcome as a number, and the buffer as the call leaves it.
+use mathlib.Core.Path.{_≡_, ap, _∙_}
+use mathlib.Core.List.{List}
+use Prim.Native.Nat.{ℕ}
+use Rattle.capi.specs.Wire.{coded, paired}
+use borrow.Author.Needs.{needs}
+use Rattle.capi.proofs.blocks.zov_block_product.Statement.{statement}
+use Rattle.capi.proofs.blocks.zov_block_product.Tie as tie
+
+product-requires : tie.Need-product-requires
+product-requires c κs = search needs
+
+outcome-code-requires : tie.Need-outcome-code-requires
+outcome-code-requires c κs = search needs
+
+same-length : tie.Need-same-length
+same-length c = search needs
+
+returns : tie.Need-returns
+returns c =
+    let call = c .before .before .before .product in
+    ap (λ (x : ℕ). paired x (call .last .1 .1 .1 .0)) (c .outcome-code .ensures) ∙ ap coded (call .ensures)
+
+pub zov-block-product-spec : {M : Type 1} → statement M
+zov-block-product-spec =
+    tie.close (tie.spec product-requires outcome-code-requires same-length returns)

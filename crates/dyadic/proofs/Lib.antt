@@ -1,0 +1,3 @@
+pub mod Filling
+pub mod Checked
+pub mod Adding

@@ -1,0 +1,54 @@
+-- What the calls on blocks answer, for every input: the outcome, and what stands in the lent buffer as the call returns. Where a rule does not
+-- hold that is the number of the first such rule, and the buffer as it was.
+use mathlib.Core.Bool.{not}
+use mathlib.Core.List.{List, [], _∷_, _++_}
+use Prim.Native.Nat.{ℕ}
+use lib.Dec.{eqb}
+use lib.ListN.{length}
+use Rattle.field.specs.Gf.{gf}
+use Rattle.field.specs.Rules.{Rule, _unless_, fault, unless-refused, isWidth}
+use Rattle.slices.specs.declared.Outcome.{Outcome}
+use Rattle.slices.specs.declared.Outcome.the-variants.{Done, Refused}
+use Rattle.slices.specs.Lengths.{isPower}
+use Rattle.slices.specs.Elements.{allElements}
+use Rattle.dyadic.specs.Block.{blockSum, blockProduct, total, blockInverse}
+
+-- s is the length of a block, n that of the buffer for the result
+unfoldable pub sizeRules : ℕ → ℕ → ℕ → List Rule
+sizeRules m s n = (1 unless isWidth m) ∷ (2 unless isPower s) ∷ (2 unless eqb n s) ∷ []
+
+unfoldable pub blockRules : ℕ → List ℕ → ℕ → List Rule
+blockRules m a n = sizeRules m (length a) n ++ (3 unless allElements m a) ∷ []
+
+unfoldable pub pairRules : ℕ → List ℕ → List ℕ → ℕ → List Rule
+pairRules m a b n =
+    sizeRules m (length a) n ++ (2 unless eqb (length b) (length a)) ∷ (3 unless allElements m a) ∷ (3 unless allElements m b) ∷ []
+
+-- a block whose elements sum to zero is 9, 01's "dead block"
+unfoldable pub inverseRules : ℕ → List ℕ → ℕ → List Rule
+inverseRules m a n = blockRules m a n ++ (9 unless not (eqb (total (gf m) a) 0)) ∷ []
+
+unfoldable pub sizeFault : ℕ → ℕ → ℕ → ℕ
+sizeFault m s n = fault (sizeRules m s n)
+
+unfoldable pub blockFault : ℕ → List ℕ → ℕ → ℕ
+blockFault m a n = fault (blockRules m a n)
+
+unfoldable pub pairFault : ℕ → List ℕ → List ℕ → ℕ → ℕ
+pairFault m a b n = fault (pairRules m a b n)
+
+unfoldable pub inverseFault : ℕ → List ℕ → ℕ → ℕ
+inverseFault m a n = fault (inverseRules m a n)
+
+-- the outcome and the buffer at exit of a call that found the number, `out` being the buffer at entry and `block` the result
+abbrev pub answer : ℕ → List ℕ → List ℕ → Outcome × List ℕ
+answer number out block = unless-refused number (λ n. (Refused n, out)) (Done, block)
+
+unfoldable pub sumAnswer : ℕ → List ℕ → List ℕ → List ℕ → Outcome × List ℕ
+sumAnswer m a b out = answer (pairFault m a b (length out)) out (blockSum (gf m) a b)
+
+unfoldable pub productAnswer : ℕ → List ℕ → List ℕ → List ℕ → Outcome × List ℕ
+productAnswer m a b out = answer (pairFault m a b (length out)) out (blockProduct (gf m) a b)
+
+unfoldable pub inverseAnswer : ℕ → List ℕ → List ℕ → Outcome × List ℕ
+inverseAnswer m a out = answer (inverseFault m a (length out)) out (blockInverse (gf m) a)

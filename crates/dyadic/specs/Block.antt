@@ -1,0 +1,40 @@
+-- Dyadic blocks, over the operations K of any field. A block is given by its signature, a list of s elements; s is a power of two wherever a
+-- law needs it. The sum, product and inverse of two blocks are signatures again: Laws says that they are those of the full matrices.
+use mathlib.Core.List.{List}
+use Prim.Native.Nat.{ℕ}
+use lib.ListN.{length, getD}
+use Rattle.algebra.specs.Field.{Ops}
+use Rattle.algebra.specs.Sum.{sum}
+use Rattle.algebra.specs.Tabulate.{tabulate}
+use Rattle.algebra.specs.Xor.{_⊕_}
+
+module _ {A : Type 0} (K : Ops A) where
+  -- an entry of a signature
+  abbrev pub entry : List A → ℕ → A
+  entry a i = getD a i (K .nought)
+
+  -- 01: "Its matrix has entry i, j equal to the signature at i ⊕ j"
+  unfoldable pub matrix : List A → ℕ → ℕ → A
+  matrix a i j = entry a (i ⊕ j)
+
+  unfoldable pub blockSum : List A → List A → List A
+  blockSum a b = tabulate (length a) (λ i. K .add (entry a i) (entry b i))
+
+  -- the sum of f j · g (j ⊕ d) over the j below s
+  abbrev pub convolution : ℕ → (ℕ → A) → (ℕ → A) → ℕ → A
+  convolution s f g d = sum K s (λ j. K .mul (f j) (g (j ⊕ d)))
+
+  unfoldable pub blockProduct : List A → List A → List A
+  blockProduct a b = tabulate (length a) (convolution (length a) (entry a) (entry b))
+
+  -- the sum of all elements
+  unfoldable pub total : List A → A
+  total a = sum K (length a) (entry a)
+
+  -- every entry divided by c
+  unfoldable pub quotient : List A → A → List A
+  quotient a c = tabulate (length a) (λ i. K .mul (entry a i) (K .inv c))
+
+  -- 01: "the signature divided by the square of that sum"
+  unfoldable pub blockInverse : List A → List A
+  blockInverse a = quotient a (K .mul (total a) (total a))

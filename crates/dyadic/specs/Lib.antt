@@ -1,0 +1,9 @@
+pub mod Block
+pub mod Matrix
+pub mod Convolution
+pub mod Entries
+pub mod Sums
+pub mod Identity
+pub mod Laws
+pub mod Checked
+pub mod Answers

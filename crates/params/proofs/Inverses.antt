@@ -1,0 +1,66 @@
+-- The test of the rule works on stored inverses, and the test for equal entries on the first entry alone: why both are right.
+use mathlib.Core.Path.{_≡_, refl, sym, ap, ap₂, _∙_, subst}
+use mathlib.Core.Logic.{_≢_}
+use mathlib.Core.Bool.{Bool, true}
+use mathlib.Core.List.{List}
+use Prim.Native.Nat.{ℕ, suc, _^_, _≤_, _<_}
+use native.Mathlib.Decide.{decLt}
+use native.Mathlib.Omega.{arith}
+use lib.Dec.{eqb}
+use lib.ListN.{length, getD, drop, List·getD-append}
+use Rattle.algebra.specs.All.{all, all-cong}
+use Rattle.algebra.specs.Tabulate.{tabulate, length-tabulate, getD-tabulate, filled}
+use Rattle.algebra.specs.Xor.{_⊕_, xor, ⊕-eq}
+use Rattle.field.specs.Gf.{Width, gf, gf-laws}
+use Rattle.slices.specs.Lengths.{isPower}
+use Rattle.slices.specs.Elements.{allElements, elements-are}
+use Rattle.params.specs.Existence.{inv-injective}
+use Rattle.params.specs.Tests.{entryOf, inverseAt, noZero, noZero-is, pairKept, affine, linear, linear-is, EqualToFirst}
+use Rattle.params.proofs.Scan.{index-below}
+
+-- what a loop has stored stands at its place
+pub getD-stored : (f : ℕ → ℕ) (n : ℕ) (old : List ℕ) (i : ℕ) → i < n → getD (filled f n old) i 0 ≡ f i
+unfolding filled
+getD-stored f n old i h =
+    List·getD-append (tabulate n f) (drop n old) 0 i (subst (λ (k : ℕ). i < k) (sym (length-tabulate n f)) h) ∙ getD-tabulate n f i 0 h
+
+-- the rule asks for f below n alone
+affine-cong : (n : ℕ) (f g : ℕ → ℕ) → isPower n ≡ true → ((i : ℕ) → i < n → f i ≡ g i) → affine n f ≡ affine n g
+unfolding affine pairKept
+affine-cong n f g t e =
+    all-cong n
+    (λ i li. all-cong n
+    (λ j lj. ap₂ eqb (e (i ⊕ j) (index-below n i j t li lj)) (ap₂ _⊕_ (ap₂ _⊕_ (e i li) (e j lj)) (e 0 (omega arith)))))
+
+module _ (m : ℕ) (h : List ℕ) (n-power : isPower (length h) ≡ true) where
+  pub rule-tested : {r : Bool} (l old : List ℕ) → l ≡ filled (inverseAt m h) (length h) old → r ≡ affine (length h) (entryOf l)
+      → r ≡ linear m (length h) h
+  unfolding linear
+  rule-tested l old e q =
+      q
+      ∙ affine-cong (length h) (entryOf l) (inverseAt m h) n-power
+      (λ i li. ap (λ (x : List ℕ). getD x i 0) e ∙ getD-stored (inverseAt m h) (length h) old i li)
+
+  -- if h_i = h_j then 1/h_(i⊕j) = 1/h_0
+  pub equal-to-first : Width m → allElements m h ≡ true → noZero (length h) h ≡ true → linear m (length h) h ≡ true → EqualToFirst h
+  equal-to-first W a z r i j l lj e =
+      let li : i < length h = omega arith in
+      let lk : i ⊕ j < length h = index-below (length h) i j n-power li lj in
+      let l0 : 0 < length h = omega arith in (
+        i ⊕ j,
+        positive (i ⊕ j) (λ q. apart (⊕-eq i j q)),
+        lk,
+        inv-injective (gf m) (gf-laws m W) (entryOf h 0) (entryOf h (i ⊕ j)) (elements-are m h a 0 l0) (elements-are m h a (i ⊕ j) lk)
+            (noZero-is m (length h) h .0 z 0 l0) (noZero-is m (length h) h .0 z (i ⊕ j) lk)
+            (sym (linear-is m (length h) h .0 r i j li lj ∙ ap (λ (x : ℕ). gf m .inv x ⊕ gf m .inv (entryOf h j) ⊕ gf m .inv (entryOf h 0)) e
+            ∙ cancelled (gf m .inv (entryOf h j)) (gf m .inv (entryOf h 0)))),
+      )
+    where
+      apart : i ≢ j
+      apart q = omega arith
+
+      positive : (k : ℕ) → k ≢ 0 → 0 < k
+      positive k ne = omega arith
+
+      cancelled : (x y : ℕ) → x ⊕ x ⊕ y ≡ y
+      cancelled x y = simp xor

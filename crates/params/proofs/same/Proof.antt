@@ -1,0 +1,45 @@
+-- `same` meets its contract: the lower number of the two codes, or what the comparison gives.
+use mathlib.Core.Path.{sym, ap, ap₂, _∙_}
+use borrow.Author.Needs.{needs}
+use Rattle.field.specs.Rules.{refuse, accept}
+use Rattle.params.specs.declared.Sameness.the-variants.{Refused}
+use Rattle.params.specs.Answers.{lowest, compared, sameFault, sameAnswer}
+use Rattle.params.proofs.same.Statement.{statement}
+use Rattle.params.proofs.same.Tie as tie
+
+code-fault-requires : tie.Need-code-fault-requires
+code-fault-requires c κs = search needs
+
+code-fault-requires-2 : tie.Need-code-fault-requires-2
+code-fault-requires-2 c κs = search needs
+
+lower-requires : tie.Need-lower-requires
+lower-requires c κs = search needs
+
+returns : tie.Need-returns
+unfolding sameAnswer sameFault
+returns c =
+    let d = c .before .before .before in
+    refuse Refused _ (c .before .lower .ensures ∙ ap₂ lowest (d .code-fault .ensures) (c .before .before .code-fault2 .ensures)) (c .if1 .taken)
+
+agree-requires : tie.Need-agree-requires
+agree-requires c κs = search needs
+
+returns-2 : tie.Need-returns-2
+unfolding sameAnswer sameFault compared
+returns-2 c =
+    let l = c .before .before .before in
+    let number = l .lower .ensures ∙ ap₂ lowest (l .before .before .code-fault .ensures) (l .before .code-fault2 .ensures) in
+    ap compared (sym (c .if2 .taken) ∙ c .before .agree .ensures) ∙ accept Refused _ number (c .before .before .if1 .left)
+
+returns-3 : tie.Need-returns-3
+unfolding sameAnswer sameFault compared
+returns-3 c =
+    let l = c .before .before .before in
+    let number = l .lower .ensures ∙ ap₂ lowest (l .before .before .code-fault .ensures) (l .before .code-fault2 .ensures) in
+    ap compared (sym (c .if2 .left) ∙ c .before .agree .ensures) ∙ accept Refused _ number (c .before .before .if1 .left)
+
+pub same-spec : {M : Type 1} → statement M
+same-spec =
+    tie.close
+    (tie.spec code-fault-requires code-fault-requires-2 lower-requires returns agree-requires returns-2 returns-3)

@@ -1,0 +1,181 @@
+// The tests of a code's parameters, for every call that is handed some: the number that refuses them, or 0.
+use field::Elem;
+use slices::LONGEST;
+ghost use mathlib.Core.Path.{_≡_};
+ghost use mathlib.Core.Bool.{true};
+ghost use Prim.Native.Nat.{_≤_};
+ghost use lib.ListN.{length, getD};
+ghost use Rattle.algebra.specs.Tabulate.{filled};
+ghost use Rattle.field.specs.Gf.{Width};
+ghost use Rattle.field.specs.Rules.{fault};
+ghost use Rattle.slices.specs.Lengths.{longest, isPower};
+ghost use Rattle.slices.specs.Elements.{allElements};
+ghost use Rattle.params.specs.Tests.{entryOf, inverseAt, noZero, affine, linear, distinct, EqualToFirst};
+ghost use Rattle.params.specs.Code.{isLength, isRootCount, shapeRules, signatureRules};
+ghost use Rattle.params.specs.Answers.{codeFault};
+
+// The number for a code, where `buffers` says whether the call's lent buffers have their lengths.
+pub fn code_fault(m: u32, n: u32, t: u32, omega: u32, h: &[Elem], buffers: bool) -> u32
+    ensures { λ r. ⌜ r ≡ codeFault buffers m n t omega (now (h .entry)) ⌝ }
+{
+    let mut inverses: [Elem; LONGEST] = [0; LONGEST];
+    code_fault_inverses(m, n, t, omega, h, buffers, &mut inverses)
+}
+
+// The same, and the first n of `inverses` are the inverses of the entries where the number is 0.
+pub fn code_fault_inverses(
+    m: u32,
+    n: u32,
+    t: u32,
+    omega: u32,
+    h: &[Elem],
+    buffers: bool,
+    inverses: &mut [Elem],
+) -> u32
+    requires { ⌜ longest ≤ length (now inverses) ⌝ }
+    ensures { λ r. ⌜ r ≡ codeFault buffers m n t omega (now (h .entry)) ⌝ }
+    ensures { λ r. ⌜ (r ≡ 0 → now (inverses .exit) ≡ filled (inverseAt m (now (h .entry))) n (now (inverses .entry))) ⌝ }
+{
+    let number = shape_fault(m, n, omega, h, buffers);
+    if number != 0 {
+        return number;
+    }
+    let number = signature_fault(m, h, inverses);
+    if number != 0 {
+        return number;
+    }
+    if !is_root_count(n, t) {
+        return 7;
+    }
+    0
+}
+
+fn is_length(n: u32) -> bool
+    ensures { λ r. ⌜ r ≡ isLength n ⌝ }
+{
+    if n < 2 {
+        return false;
+    }
+    slices::is_power(n as usize)
+}
+
+fn is_root_count(n: u32, t: u32) -> bool
+    ensures { λ r. ⌜ r ≡ isRootCount n t ⌝ }
+{
+    if !slices::is_power(t as usize) {
+        return false;
+    }
+    2 * t <= n
+}
+
+// 1 to 3: numbers and lengths.
+fn shape_fault(m: u32, n: u32, omega: u32, h: &[Elem], buffers: bool) -> u32
+    ensures { λ r. ⌜ r ≡ fault (shapeRules buffers m n omega (now (h .entry))) ⌝ }
+{
+    if m < field::internal::NARROWEST {
+        return 1;
+    }
+    if field::internal::WIDEST < m {
+        return 1;
+    }
+    if !is_length(n) {
+        return 2;
+    }
+    if h.len() != n as usize {
+        return 2;
+    }
+    if !buffers {
+        return 2;
+    }
+    if !slices::all_elements(m, h) {
+        return 3;
+    }
+    if omega >> m != 0 {
+        return 3;
+    }
+    0
+}
+
+// 4 to 6: 01's three conditions on a signature.
+fn signature_fault(m: u32, h: &[Elem], inverses: &mut [Elem]) -> u32
+    requires { ⌜ Width m × (allElements m (now h) ≡ true) × (isPower (length (now h)) ≡ true) × (length (now h) ≤ length (now inverses)) ⌝ }
+    ensures { λ r. ⌜ r ≡ fault (signatureRules m (length (now (h .entry))) (now (h .entry))) ⌝ }
+    ensures { λ r. ⌜ (r ≡ 0 → now (inverses .exit) ≡ filled (inverseAt m (now (h .entry))) (length (now (h .entry))) (now (inverses .entry))) ⌝ }
+{
+    if !no_zero(h) {
+        return 4;
+    }
+    if !is_linear(m, h, inverses) {
+        return 5;
+    }
+    if !all_different(h) {
+        return 6;
+    }
+    0
+}
+
+fn no_zero(h: &[Elem]) -> bool
+    ensures { λ r. ⌜ r ≡ noZero (length (now (h .entry))) (now (h .entry)) ⌝ }
+{
+    for i in 0..h.len() {
+        if h[i] == 0 {
+            return false;
+        }
+    }
+    true
+}
+
+// 01's rule for 1/h. The inverses are computed once.
+fn is_linear(m: u32, h: &[Elem], inverses: &mut [Elem]) -> bool
+    requires { ⌜ Width m × (allElements m (now h) ≡ true) × (isPower (length (now h)) ≡ true) × (length (now h) ≤ length (now inverses)) ⌝ }
+    ensures { λ r. ⌜ r ≡ linear m (length (now (h .entry))) (now (h .entry)) ⌝ }
+    ensures { λ _. ⌜ now (inverses .exit) ≡ filled (inverseAt m (now (h .entry))) (length (now (h .entry))) (now (inverses .entry)) ⌝ }
+{
+    invert(m, h, inverses);
+    is_affine(h.len(), inverses)
+}
+
+// The inverses of the entries, at their places.
+fn invert(m: u32, h: &[Elem], inverses: &mut [Elem])
+    requires { ⌜ Width m × (allElements m (now h) ≡ true) × (length (now h) ≤ length (now inverses)) ⌝ }
+    ensures { λ _. ⌜ now (inverses .exit) ≡ filled (inverseAt m (now (h .entry))) (length (now (h .entry))) (now (inverses .entry)) ⌝ }
+{
+    for i in 0..h.len() {
+        inverses[i] = field::internal::inverse(m, h[i]);
+    }
+}
+
+// The rule at every pair, i from 0 and, for each i, j from 0, up to the first pair that breaks it.
+fn is_affine(n: usize, inverses: &[Elem]) -> bool
+    requires { ⌜ (isPower n ≡ true) × (n ≤ length (now inverses)) ⌝ }
+    ensures { λ r. ⌜ r ≡ affine n (entryOf (now (inverses .entry))) ⌝ }
+{
+    let mut kept = true;
+    'scan: for i in 0..n {
+        let sum = inverses[i] ^ inverses[0];
+        for j in 0..n {
+            let at = inverses[i ^ j];
+            let expected = inverses[j] ^ sum;
+            if at != expected {
+                kept = false;
+                break 'scan;
+            }
+        }
+    }
+    kept
+}
+
+// Whether no two entries are equal, in a signature where that need only be asked of the first entry and the others.
+fn all_different(h: &[Elem]) -> bool
+    requires { ⌜ EqualToFirst (now h) ⌝ }
+    ensures { λ r. ⌜ r ≡ distinct (length (now (h .entry))) (now (h .entry)) ⌝ }
+{
+    for i in 1..h.len() {
+        let first = h[0];
+        let other = h[i];
+        if first == other {
+            return false;
+        }
+    }
+    true
+}

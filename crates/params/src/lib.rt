@@ -1,0 +1,152 @@
+// The parameters of a code (01's card): width m, length n, number t of roots, offset ω and signature h.
+//
+// The calls of this file take any input: what breaks a rule is refused by its number.
+pub mod internal;
+
+use field::Elem;
+use slices::LONGEST;
+use slices::Outcome;
+ghost use mathlib.Core.Path.{_≡_};
+ghost use mathlib.Core.Bool.{_&&_};
+ghost use Prim.Native.Nat.{_≤_, _<_};
+ghost use lib.Dec.{eqb};
+ghost use lib.ListN.{length};
+ghost use Rattle.algebra.specs.Tabulate.{tabulate};
+ghost use Rattle.params.specs.Tests.{added};
+ghost use Rattle.params.specs.Same.{sameEntries, sameCode};
+ghost use Rattle.params.specs.Answers.{checkAnswer, rootsAfter, supportAfter, lowest, sameAnswer};
+
+// Whether two codes are the same.
+pub enum Sameness {
+    Same,
+    Different,
+    Refused(u32),
+}
+
+// Whether a code is accepted. Where it is, `roots` holds z_i = 1/h_i + ω and `support` L_j = 1/h_j + 1/h_0 + ω, n of each.
+pub fn check(
+    m: u32,
+    n: u32,
+    t: u32,
+    omega: u32,
+    h: &[Elem],
+    roots: &mut [Elem],
+    support: &mut [Elem],
+) -> Outcome
+    ensures { λ r. ⌜ r ≡ checkAnswer m n t omega (now (h .entry)) (now (roots .entry)) (now (support .entry)) ⌝ }
+    ensures { λ _. ⌜ now (roots .exit) ≡ rootsAfter m n t omega (now (h .entry)) (now (roots .entry)) (now (support .entry)) ⌝ }
+    ensures { λ _. ⌜ now (support .exit) ≡ supportAfter m n t omega (now (h .entry)) (now (roots .entry)) (now (support .entry)) ⌝ }
+{
+    let mut inverses: [Elem; LONGEST] = [0; LONGEST];
+    let lent = both_have(n as usize, roots.len(), support.len());
+    let number = internal::code_fault_inverses(m, n, t, omega, h, lent, &mut inverses);
+    if number != 0 {
+        return Outcome::Refused(number);
+    }
+    store(&inverses, omega as Elem, roots, support);
+    Outcome::Done
+}
+
+// Whether m, n, t and h agree. The offsets are tested as those of any code, and not compared.
+pub fn same(
+    m1: u32,
+    n1: u32,
+    t1: u32,
+    omega1: u32,
+    h1: &[Elem],
+    m2: u32,
+    n2: u32,
+    t2: u32,
+    omega2: u32,
+    h2: &[Elem],
+) -> Sameness
+    ensures { λ r. ⌜ r ≡ sameAnswer m1 n1 t1 omega1 (now (h1 .entry)) m2 n2 t2 omega2 (now (h2 .entry)) ⌝ }
+{
+    let number = lower(
+        internal::code_fault(m1, n1, t1, omega1, h1, true),
+        internal::code_fault(m2, n2, t2, omega2, h2, true),
+    );
+    if number != 0 {
+        return Sameness::Refused(number);
+    }
+    if agree(m1, n1, t1, h1, m2, n2, t2, h2) {
+        return Sameness::Same;
+    }
+    Sameness::Different
+}
+
+fn agree(m1: u32, n1: u32, t1: u32, h1: &[Elem], m2: u32, n2: u32, t2: u32, h2: &[Elem]) -> bool
+    ensures { λ r. ⌜ r ≡ sameCode m1 n1 t1 (now (h1 .entry)) m2 n2 t2 (now (h2 .entry)) ⌝ }
+{
+    if m1 != m2 {
+        return false;
+    }
+    if n1 != n2 {
+        return false;
+    }
+    if t1 != t2 {
+        return false;
+    }
+    same_entries(h1, h2)
+}
+
+// Whether two lengths are both n.
+fn both_have(n: usize, a: usize, b: usize) -> bool
+    ensures { λ r. ⌜ r ≡ (eqb a n && eqb b n) ⌝ }
+{
+    if a != n {
+        return false;
+    }
+    b == n
+}
+
+// The roots and the support that the inverses and the offset give, as many as the buffers hold.
+fn store(inverses: &[Elem], offset: Elem, roots: &mut [Elem], support: &mut [Elem])
+    requires { ⌜ (0 < length (now inverses)) × (length (now roots) ≤ length (now inverses)) × (length (now support) ≤ length (now inverses)) ⌝ }
+    ensures { λ _. ⌜ now (roots .exit) ≡ tabulate (length (now (roots .entry))) (added (now (inverses .entry)) offset) ⌝ }
+    ensures { λ _. ⌜ now (support .exit) ≡ tabulate (length (now (support .entry))) (added (now (inverses .entry)) (added (now (inverses .entry)) offset 0)) ⌝ }
+{
+    let first = inverses[0];
+    add_each(inverses, offset, roots);
+    add_each(inverses, first ^ offset, support);
+}
+
+// The entries of a with c added to each, as many as `out` holds.
+fn add_each(a: &[Elem], c: Elem, out: &mut [Elem])
+    requires { ⌜ length (now out) ≤ length (now a) ⌝ }
+    ensures { λ _. ⌜ now (out .exit) ≡ tabulate (length (now (out .entry))) (added (now (a .entry)) c) ⌝ }
+{
+    for i in 0..out.len() {
+        out[i] = a[i] ^ c;
+    }
+}
+
+// The lower of two numbers of 01's table, where 0 is none.
+fn lower(a: u32, b: u32) -> u32
+    ensures { λ r. ⌜ r ≡ lowest a b ⌝ }
+{
+    if a == 0 {
+        return b;
+    }
+    if b == 0 {
+        return a;
+    }
+    if b < a {
+        return b;
+    }
+    a
+}
+
+fn same_entries(a: &[Elem], b: &[Elem]) -> bool
+    ensures { λ r. ⌜ r ≡ sameEntries (now (a .entry)) (now (b .entry)) ⌝ }
+{
+    if a.len() != b.len() {
+        return false;
+    }
+    for i in 0..a.len() {
+        if a[i] != b[i] {
+            return false;
+        }
+    }
+    true
+}

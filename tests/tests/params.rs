@@ -1,0 +1,384 @@
+//! Checking a code and comparing two, against the three rules written plainly and the existence of the two sequences.
+
+use zovunelith_tests::canary::Lent;
+use zovunelith_tests::draw::{self, CodeFault, BAD_LENGTHS, BAD_WIDTHS};
+use zovunelith_tests::ffi::params as library;
+use zovunelith_tests::random::Random;
+use zovunelith_tests::reference::params::{self as reference, code_a, code_t, Params};
+use zovunelith_tests::reference::field;
+use zovunelith_tests::Elem;
+
+/// z and L, as a check gives them.
+type Checked = Result<(Vec<Elem>, Vec<Elem>), u32>;
+
+fn numbers(params: &Params) -> (u32, u32, u32, u32) {
+    (params.m, params.n, params.t, params.omega)
+}
+
+/// Checks a code with canaries around every buffer and compares answer and buffers with the second implementation's.
+#[track_caller]
+fn compare_lent(params: &Params, roots_length: usize, support_length: usize) -> Checked {
+    let expected = reference::check(params, roots_length, support_length);
+    let h = Lent::holding(&params.h);
+    let mut roots = Lent::marked(roots_length);
+    let mut support = Lent::marked(support_length);
+    let answer = library::check(numbers(params), h.slice(), roots.slice_mut(), support.slice_mut());
+    assert_eq!(answer, expected.as_ref().map(|_| 0).map_err(|&number| number), "{params:?}");
+    h.assert_unchanged();
+    roots.assert_holds(expected.as_ref().ok().map(|lists| lists.0.as_slice()));
+    support.assert_holds(expected.as_ref().ok().map(|lists| lists.1.as_slice()));
+    expected
+}
+
+/// The same with buffers of n entries, where n is a number of entries that can be lent.
+#[track_caller]
+fn compare(params: &Params) -> Checked {
+    let length = if params.n <= 1024 { params.n as usize } else { params.h.len() };
+    compare_lent(params, length, length)
+}
+
+/// Compares two codes and the answer with the second implementation's.
+#[track_caller]
+fn compare_two(one: &Params, other: &Params) -> Result<bool, u32> {
+    let expected = reference::same(one, other);
+    let (h1, h2) = (Lent::holding(&one.h), Lent::holding(&other.h));
+    let answer = library::same(numbers(one), h1.slice(), numbers(other), h2.slice());
+    assert_eq!(answer, expected.map(u32::from), "{one:?} and {other:?}");
+    h1.assert_unchanged();
+    h2.assert_unchanged();
+    expected
+}
+
+fn small(m: u32, omega: u32, h: &[Elem]) -> Params {
+    Params { m, n: h.len() as u32, t: 1, omega, h: h.to_vec() }
+}
+
+#[test]
+fn cases() {
+    assert_eq!(compare(&small(3, 0, &[7, 2, 3, 5])), Err(5));
+    assert_eq!(compare(&small(2, 0, &[1, 1, 1, 1])), Err(6));
+    assert_eq!(compare(&small(2, 0, &[1, 0])), Err(4));
+    assert_eq!(compare(&small(2, 0, &[1, 2])).expect("accepted").1, [0, 2]);
+    assert_eq!(compare(&code_a()).expect("accepted").1, [0, 1, 2, 3]);
+    let (roots, support) = compare(&code_t()).expect("accepted");
+    assert_eq!(support, [24, 9, 6, 23, 10, 27, 20, 5, 25, 8, 7, 22, 11, 26, 21, 4]);
+    assert_eq!(roots[..2], [31, 14]);
+}
+
+#[test]
+fn limits() {
+    assert_eq!(compare(&Params { m: 1, ..code_a() }), Err(1));
+    assert_eq!(compare(&Params { m: 9, ..code_a() }), Err(1));
+    compare(&small(2, 3, &[1, 2])).expect("accepted");
+    compare(&small(8, 255, &[1, 2])).expect("accepted");
+    assert_eq!(compare(&small(5, 0, &[12, 8, 10])), Err(2));
+    assert_eq!(compare(&small(8, 0, &[1; 256])), Err(2));
+    compare(&Params { t: 8, ..code_t() }).expect("accepted");
+    assert_eq!(compare(&Params { t: 16, ..code_t() }), Err(7));
+}
+
+#[test]
+fn drawn_codes_of_every_shape() {
+    let mut random = Random::new(301);
+    for (m, n, t) in draw::shapes() {
+        for _ in 0..6 {
+            let params = draw::params(&mut random, m, n, t);
+            let (z, l) = compare(&params).expect("accepted");
+            // Demand 2: the pair that comes back is a pair of disjoint sequences with that Cauchy matrix.
+            for i in 0..z.len() {
+                assert!(!l.contains(&z[i]) && !z[..i].contains(&z[i]) && !l[..i].contains(&l[i]), "{params:?}");
+                for j in 0..l.len() {
+                    assert_eq!(field::times(m, z[i] ^ l[j], params.h[i ^ j]), 1, "{params:?}");
+                }
+            }
+        }
+    }
+}
+
+/// Every offset below q is accepted with a signature that is; no offset from q on is.
+#[test]
+fn every_offset() {
+    let mut random = Random::new(302);
+    for (m, _) in field::WORDS {
+        let params = draw::params(&mut random, m, 2.max(field::size(m) / 4), 1);
+        for omega in 0..field::size(m) {
+            compare(&Params { omega, ..params.clone() }).expect("accepted");
+        }
+        for beyond in [0, 1, 255, 256, 65536 - field::size(m), u32::MAX - field::size(m)] {
+            assert_eq!(compare(&Params { omega: field::size(m) + beyond, ..params.clone() }), Err(3));
+        }
+        for omega in [256, 256 + 1, 512, 65536, 1 << 24, 1 << 31] {
+            assert_eq!(compare(&Params { omega, ..params.clone() }), Err(3));
+        }
+    }
+}
+
+/// Every number of rows, with a signature that is accepted.
+#[test]
+fn every_number_of_rows() {
+    let mut random = Random::new(303);
+    for (m, n, _) in draw::shapes().into_iter().filter(|shape| shape.2 == 1) {
+        let params = draw::params(&mut random, m, n, 1);
+        for t in (0..=260).chain([65536, 65536 + 1, 1 << 31, u32::MAX]) {
+            let right = t <= n / 2 && [1, 2, 4, 8, 16, 32, 64].contains(&t);
+            let answer = compare(&Params { t, ..params.clone() });
+            assert_eq!(answer.err(), (!right).then_some(7), "n {n}, t {t}");
+        }
+    }
+}
+
+/// Over the smallest fields, every signature there is: accepted exactly if the two sequences exist.
+#[test]
+fn all_small_signatures() {
+    for (m, n) in [(2, 2), (2, 4), (3, 2), (3, 4), (4, 2)] {
+        let q = field::size(m) as usize;
+        for index in 0..q.pow(n) {
+            let h: Vec<Elem> = (0..n).map(|i| (index / q.pow(i) % q) as Elem).collect();
+            let answer = compare(&small(m, 1, &h));
+            assert_eq!(answer.is_ok(), reference::cauchy_sequences(m, &h).is_some(), "width {m}, {h:?}");
+        }
+    }
+}
+
+/// One entry changed to each other value, at each place.
+#[test]
+fn one_entry_changed() {
+    let mut random = Random::new(304);
+    for (m, n, t) in [(2, 2, 1), (3, 4, 2), (4, 8, 1), (5, 16, 2), (6, 8, 4), (7, 16, 1), (8, 16, 8)] {
+        let params = draw::params(&mut random, m, n, t);
+        for place in 0..n as usize {
+            for value in 0..=Elem::MAX {
+                let mut changed = params.clone();
+                changed.h[place] = value;
+                let answer = compare(&changed);
+                if answer.is_ok() {
+                    assert!(reference::cauchy_sequences(m, &changed.h).is_some(), "{changed:?}");
+                }
+                // With four entries or more the others ask for the one that was there.
+                assert!(n == 2 || value == params.h[place] || answer.is_err(), "{changed:?}");
+            }
+        }
+    }
+}
+
+/// The entries of an accepted signature in another order, or two of them equal.
+#[test]
+fn entries_exchanged_and_repeated() {
+    let mut random = Random::new(305);
+    for (m, n, t) in draw::shapes() {
+        for _ in 0..10 {
+            let params = draw::params(&mut random, m, n, t);
+            let places = random.places(n as usize, 2);
+            let mut changed = params.clone();
+            changed.h.swap(places[0], places[1]);
+            compare(&changed).ok();
+            changed.h[places[0]] = changed.h[places[1]];
+            assert!(compare(&changed).is_err(), "{changed:?}");
+            let mut shuffled = params.clone();
+            for place in 1..n as usize {
+                let other = random.below(place + 1);
+                shuffled.h.swap(place, other);
+            }
+            compare(&shuffled).ok();
+            let twin = Params { h: draw::twin_signature(&mut random, m, n), ..params };
+            assert_eq!(compare(&twin), Err(6));
+        }
+    }
+}
+
+/// An accepted signature whose indices are moved by ⊕ r is accepted again; moved by + r, with carries from bit to bit,
+/// it is crossed.
+#[test]
+fn indices_moved_by_exclusive_or_and_by_sum() {
+    let mut random = Random::new(306);
+    for (m, n, t) in draw::shapes() {
+        let params = draw::params(&mut random, m, n, t);
+        for r in [1, n as usize / 2, n as usize - 1] {
+            let moved = |to: &dyn Fn(usize) -> usize| (0..n as usize).map(|i| params.h[to(i)]).collect();
+            compare(&Params { h: moved(&|i| i ^ r), ..params.clone() }).expect("accepted");
+            let added = compare(&Params { h: moved(&|i| (i + r) % n as usize), ..params.clone() });
+            // Up to n = 4, and for the highest bit, no carry reaches a further bit.
+            let expected = if n <= 4 || r == n as usize / 2 { None } else { Some(5) };
+            assert_eq!(added.err(), expected, "{params:?}, moved by {r}");
+        }
+    }
+}
+
+/// The rule fails at one entry whose index has three bits or more: between powers of two it holds throughout.
+#[test]
+fn crossed_away_from_the_powers_of_two() {
+    let mut random = Random::new(315);
+    for (m, n, t) in draw::shapes().into_iter().filter(|shape| shape.1 >= 8) {
+        let params = draw::params(&mut random, m, n, t);
+        for place in (0..n as usize).filter(|place| place.count_ones() >= 3) {
+            let mut off = params.clone();
+            while off.h[place] == params.h[place] {
+                off.h[place] = draw::nonzero(&mut random, m);
+            }
+            assert_eq!(compare(&off), Err(5), "{off:?}");
+        }
+    }
+}
+
+/// n above q/2 is never accepted: over all signatures that keep the rule for 1/h, where they can all be looked at,
+/// and over many of them elsewhere.
+#[test]
+fn more_than_half_the_field_is_never_accepted() {
+    let mut random = Random::new(307);
+    for (m, n) in [(2, 4), (2, 8), (3, 8)] {
+        let q = field::size(m) as usize;
+        let e = u32::ilog2(n);
+        for index in 0..q.pow(e + 1) {
+            let values: Vec<Elem> = (0..=e).map(|i| (index / q.pow(i) % q) as Elem).collect();
+            let entry = |i: usize| {
+                let chosen = (0..e as usize).filter(|&bit| i >> bit & 1 == 1);
+                let reciprocal = chosen.fold(values[0], |sum, bit| sum ^ values[bit + 1]);
+                if reciprocal == 0 {
+                    0
+                } else {
+                    field::reciprocal(m, reciprocal)
+                }
+            };
+            let params = small(m, 0, &(0..n as usize).map(entry).collect::<Vec<Elem>>());
+            assert!(compare(&params).is_err(), "{params:?}");
+        }
+    }
+    for (m, _) in field::WORDS {
+        for n in reference::LENGTHS.into_iter().filter(|&n| n > field::size(m) / 2) {
+            for _ in 0..20 {
+                let h = draw::twin_signature(&mut random, m, n);
+                assert_eq!(compare(&small(m, 0, &h)), Err(6));
+                let h: Vec<Elem> = (0..n).map(|_| draw::nonzero(&mut random, m)).collect();
+                assert!(compare(&small(m, 0, &h)).is_err());
+            }
+        }
+    }
+}
+
+#[test]
+fn damaged_codes_singly_and_in_pairs() {
+    let mut random = Random::new(308);
+    for (m, n, t) in draw::shapes() {
+        for faults in draw::singles_and_pairs(m, n) {
+            let params = draw::damaged_code(&mut random, m, n, t, &faults);
+            let lowest = faults.iter().map(|fault| fault.number()).min().expect("a fault");
+            assert_eq!(compare(&params), Err(lowest), "{faults:?}: {params:?}");
+        }
+    }
+}
+
+/// A wrong length of any buffer is 2: after 1, before whatever else the code has.
+#[test]
+fn buffers_of_other_lengths() {
+    let mut random = Random::new(309);
+    for (m, n, t) in draw::shapes() {
+        let mut sets = vec![Vec::new()];
+        sets.extend(draw::singles_and_pairs(m, n));
+        for faults in sets {
+            let params = draw::damaged_code(&mut random, m, n, t, &faults);
+            let right = n as usize;
+            let wrong = random.pick(&[0, right - 1, right + 1, 2 * right, 256 + right]);
+            let number = if faults.contains(&CodeFault::Width) { 1 } else { 2 };
+            for (roots, support) in [(wrong, right), (right, wrong), (wrong, wrong)] {
+                assert_eq!(compare_lent(&params, roots, support), Err(number), "{faults:?}: {params:?}");
+            }
+        }
+    }
+}
+
+/// Numbers n that no code has, with buffers of that length; and a right n that is another than the buffers'.
+#[test]
+fn other_lengths_of_codes() {
+    let mut random = Random::new(310);
+    for n in BAD_LENGTHS {
+        let h: Vec<Elem> = (0..n.min(1024)).map(|_| draw::nonzero(&mut random, 8)).collect();
+        assert_eq!(compare(&Params { m: 8, n, t: 1, omega: 0, h }), Err(2), "n {n}");
+    }
+    for (m, n, t) in draw::shapes() {
+        let params = draw::params(&mut random, m, n, t);
+        for other in (0..300).chain([65536 + n, u32::MAX - n]).filter(|&other| other != n) {
+            assert_eq!(compare_lent(&Params { n: other, ..params.clone() }, n as usize, n as usize), Err(2));
+        }
+        for width in BAD_WIDTHS {
+            assert_eq!(compare(&Params { m: width, n: 3, ..params.clone() }), Err(1));
+        }
+    }
+}
+
+/// Random numbers and entries of every kind.
+#[test]
+fn any_codes_at_all() {
+    let mut random = Random::new(311);
+    let mut answers = [0; 8];
+    for _ in 0..20_000 {
+        let m = random.pick(&[0, 1, 2, 3, 4, 5, 6, 7, 8, 9, 33]);
+        let n = random.pick(&[0, 1, 2, 2, 3, 4, 4, 5, 8]);
+        let t = random.pick(&[0, 1, 1, 1, 2, 2, 3, 4, 8]);
+        let small_entries = random.below(3);
+        let h = (0..n).map(|_| (random.draw() as Elem) >> (small_entries * 2)).collect();
+        let omega = (random.draw() as u32) >> random.below(32);
+        let answer = compare(&Params { m, n, t, omega, h });
+        answers[answer.map_or_else(|number| number as usize, |_| 0)] += 1;
+    }
+    assert!(answers.iter().all(|&count| count > 10), "every answer was among them: {answers:?}");
+}
+
+#[test]
+fn codes_that_are_the_same_or_differ() {
+    let mut random = Random::new(312);
+    for (m, n, t) in draw::shapes() {
+        let params = draw::params(&mut random, m, n, t);
+        let other_offset = Params { omega: draw::element(&mut random, m).into(), ..params.clone() };
+        assert_eq!(compare_two(&params, &other_offset), Ok(true));
+        let other_signature = Params { h: draw::signature(&mut random, m, n), ..params.clone() };
+        assert_eq!(compare_two(&params, &other_signature), Ok(params.h == other_signature.h));
+        for (m2, n2, t2) in draw::shapes() {
+            let other = draw::params(&mut random, m2, n2, t2);
+            compare_two(&params, &other).expect("both accepted");
+        }
+    }
+}
+
+/// One number differs and all else agrees.
+#[test]
+fn codes_that_differ_in_one_number() {
+    let mut random = Random::new(313);
+    for (m, n, t) in draw::shapes() {
+        let params = draw::params(&mut random, m, n, t);
+        for t2 in reference::ROWS.into_iter().filter(|&t2| t2 <= n / 2) {
+            assert_eq!(compare_two(&params, &Params { t: t2, ..params.clone() }), Ok(t == t2));
+        }
+        for (m2, _) in field::WORDS {
+            let other = Params { m: m2, ..params.clone() };
+            assert!(m2 == m || compare_two(&params, &other) != Ok(true), "{params:?}");
+        }
+    }
+    // The same two entries in two fields.
+    let small = |m| Params { m, n: 2, t: 1, omega: 0, h: vec![1, 2] };
+    assert_eq!(compare_two(&small(2), &small(3)), Ok(false));
+    // n = 2 lets one entry be exchanged for another.
+    let other = Params { h: vec![1, 3], ..small(2) };
+    assert_eq!(compare_two(&small(2), &other), Ok(false));
+    assert_eq!(compare_two(&small(2), &Params { h: vec![3, 2], ..small(2) }), Ok(false));
+    assert_eq!(compare_two(&small(2), &small(2)), Ok(true));
+}
+
+/// A fault in either code brings its number, the lowest of both codes, whichever comes first.
+#[test]
+fn faults_in_either_code() {
+    let mut random = Random::new(314);
+    for (m, n, t) in draw::shapes() {
+        let right = draw::params(&mut random, m, n, t);
+        for one in draw::code_faults(m, n) {
+            let first = draw::damaged_code(&mut random, m, n, t, &[one]);
+            assert_eq!(compare_two(&first, &right), Err(one.number()));
+            assert_eq!(compare_two(&right, &first), Err(one.number()));
+            assert_eq!(compare_two(&first, &first), Err(one.number()));
+            for other in draw::code_faults(m, n) {
+                let second = draw::damaged_code(&mut random, m, n, t, &[other]);
+                let lowest = one.number().min(other.number());
+                assert_eq!(compare_two(&first, &second), Err(lowest), "{first:?} and {second:?}");
+            }
+        }
+    }
+}
