@@ -1,3 +1,4 @@
-pub mod Filling
 pub mod Checked
+pub mod Ending
+pub mod Halving
 pub mod Adding

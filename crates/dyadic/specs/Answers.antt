@@ -13,10 +13,11 @@ use Rattle.slices.specs.Lengths.{isPower}
 use Rattle.slices.specs.Elements.{allElements}
 use Rattle.dyadic.specs.Block.{blockSum, blockProduct, total, blockInverse}
 
--- s is the length of a block, n that of the buffer for the result
+-- s is the length of a block and n that of the buffer for the result: 1, 01's "width", then 2, 01's "length"
 unfoldable pub sizeRules : ℕ → ℕ → ℕ → List Rule
 sizeRules m s n = (1 unless isWidth m) ∷ (2 unless isPower s) ∷ (2 unless eqb n s) ∷ []
 
+-- 3, 01's "stranger", after every length
 unfoldable pub blockRules : ℕ → List ℕ → ℕ → List Rule
 blockRules m a n = sizeRules m (length a) n ++ (3 unless allElements m a) ∷ []
 
@@ -24,7 +25,7 @@ unfoldable pub pairRules : ℕ → List ℕ → List ℕ → ℕ → List Rule
 pairRules m a b n =
     sizeRules m (length a) n ++ (2 unless eqb (length b) (length a)) ∷ (3 unless allElements m a) ∷ (3 unless allElements m b) ∷ []
 
--- a block whose elements sum to zero is 9, 01's "dead block"
+-- 9, 01's "dead block": the elements sum to zero
 unfoldable pub inverseRules : ℕ → List ℕ → ℕ → List Rule
 inverseRules m a n = blockRules m a n ++ (9 unless not (eqb (total (gf m) a) 0)) ∷ []
 

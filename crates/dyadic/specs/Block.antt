@@ -1,5 +1,5 @@
--- Dyadic blocks, over the operations K of any field. A block is given by its signature, a list of s elements; s is a power of two wherever a
--- law needs it. The sum, product and inverse of two blocks are signatures again: Laws says that they are those of the full matrices.
+-- Dyadic blocks, over the operations K of any field. A block is given by its signature, a list of s elements, s a power of two. The sum and the
+-- product of two blocks and the inverse of one are signatures again; Laws says what they are to the full matrices.
 use mathlib.Core.List.{List}
 use Prim.Native.Nat.{ℕ}
 use lib.ListN.{length, getD}
@@ -24,6 +24,7 @@ module _ {A : Type 0} (K : Ops A) where
   abbrev pub convolution : ℕ → (ℕ → A) → (ℕ → A) → ℕ → A
   convolution s f g d = sum K s (λ j. K .mul (f j) (g (j ⊕ d)))
 
+  -- entry d is the sum of a_j · b_(j ⊕ d) over all j
   unfoldable pub blockProduct : List A → List A → List A
   blockProduct a b = tabulate (length a) (convolution (length a) (entry a) (entry b))
 

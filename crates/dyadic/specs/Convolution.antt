@@ -1,7 +1,7 @@
 -- Convolutions of functions of an index below 2^e: by halves, both ways round, and of a function with itself.
 --
 -- By halves: the indices below 2^(e+1) are those below 2^e and those with the bit 2^e, and ⊕ adds that bit apart from the others.
-use mathlib.Core.Path.{_≡_, refl, sym, ap, ap₂, _∙_}
+use mathlib.Core.Path.{_≡_, sym, ap, ap₂, _∙_}
 use mathlib.Core.Logic.{_≢_}
 use Prim.Native.Nat.{ℕ, zero, suc, _+_ as _+ℕ_, _-_, _^_, _<_}
 use native.Mathlib.Nat.{two-pow-succ, zero-mul, one-mul as one-mulℕ, zero-add}

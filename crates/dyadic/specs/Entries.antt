@@ -1,9 +1,9 @@
 -- The lengths and entries of the signatures that Block defines, and how lists go in halves.
-use mathlib.Core.Path.{_≡_, refl, sym, ap, ap₂, _∙_, subst}
+use mathlib.Core.Path.{_≡_, sym, ap, ap₂, _∙_}
 use mathlib.Core.List.{List, [], _∷_, _++_, append-assoc, append-nil}
 use Prim.Native.Nat.{ℕ, zero, suc, _+_, _^_, _<_}
 use native.Mathlib.Nat.{add-zero, add-suc}
-use lib.ListN.{length, length-append, List·getD-append}
+use lib.ListN.{length, List·getD-append}
 use lib.Seq.{getD-append-add}
 use Rattle.algebra.specs.Field.{Ops}
 use Rattle.algebra.specs.Tabulate.{tabulate, length-tabulate, getD-tabulate, tabulate-cong}

@@ -1,19 +1,19 @@
 -- What the signatures of Block are to the full matrices, for blocks of s = 2^e elements, for every e, over any field of characteristic two.
 use mathlib.Core.Path.{_≡_, sym, ap, ap₂, _∙_}
-use mathlib.Core.Logic.{_≢_}
+use mathlib.Core.Logic.{_≢_, _↔_}
 use mathlib.Core.List.{List, _++_}
 use Prim.Native.Nat.{ℕ, _+_ as _+ℕ_, _^_, _<_}
 use lib.ListN.{length, length-append}
 use lib.Pow.{pow-pos}
 use Rattle.algebra.specs.Field.{Ops, Laws}
 use Rattle.algebra.specs.Sum.{sum-cong, sum-reindex}
-use Rattle.algebra.specs.Tabulate.{tabulate, tabulate-cong}
+use Rattle.algebra.specs.Tabulate.{tabulate-cong}
 use Rattle.algebra.specs.Xor.{_⊕_, xor, ⊕-comm, ⊕-lt}
 use Rattle.dyadic.specs.Block.{entry, matrix, blockSum, convolution, blockProduct, total, blockInverse}
 use Rattle.dyadic.specs.Matrix.{Matrix, Same, matrixSum, matrixProduct, identity}
 use Rattle.dyadic.specs.Convolution.{upper, left-top, right-top, both-top, convolution-lower, convolution-upper, convolution-comm}
 use Rattle.dyadic.specs.Entries.{tabulate-append, length-inverse, entry-sum, product-sized, entry-product, entry-front, entry-back, sum-products}
-use Rattle.dyadic.specs.Identity.{identity-dyadic, identity-symmetric, identity-row, inverse-convolution, combined-rows}
+use Rattle.dyadic.specs.Inverse.{identity-dyadic, identity-symmetric, identity-row, inverse-convolution, combined-rows}
 
 module _ {A : Type 0} (K : Ops A) (F : Laws K) (e : ℕ) where
   infixl 70 _·_
@@ -121,3 +121,9 @@ module _ {A : Type 0} (K : Ops A) (F : Laws K) (e : ℕ) where
       no-left-inverse a la z (λ i j. X j i)
       (λ i k li lk. sum-cong K s (λ j lj. F .mul-comm (X j i) (matrix K a j k) ∙ ap (λ (n : ℕ). entry K a n · X j i) (⊕-comm j k))
       ∙ same k i lk li ∙ identity-symmetric K k i)
+
+  pub invertible : (a : List A) → length a ≡ s → ((i : ℕ) → i < s → In (entry K a i))
+      → (total K a ≢ nought)
+      ↔ ((X : Matrix A) × Same s (matrixProduct K s X (matrix K a)) (identity K) × Same s (matrixProduct K s (matrix K a) X) (identity K))
+  invertible a la ins =
+      (λ ne. (matrix K (blockInverse K a), left-inverse a la ins ne, right-inverse a la ins ne), λ x z. no-left-inverse a la z (x .0) (x .1))

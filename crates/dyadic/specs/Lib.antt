@@ -3,7 +3,7 @@ pub mod Matrix
 pub mod Convolution
 pub mod Entries
 pub mod Sums
-pub mod Identity
+pub mod Inverse
 pub mod Laws
-pub mod Checked
+pub mod Callers
 pub mod Answers

@@ -20,6 +20,7 @@ module _ {A : Type 0} (K : Ops A) where
   unfoldable pub matrixProduct : ℕ → Matrix A → Matrix A → Matrix A
   matrixProduct s P Q i k = sum K s (λ j. K .mul (P i j) (Q j k))
 
+  -- one on the diagonal, nought beside it
   unfoldable pub diagonal : Bool → A
   diagonal true = K .one
   diagonal false = K .nought

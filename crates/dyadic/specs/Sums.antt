@@ -1,7 +1,7 @@
 -- Sums of blocks: they may be bracketed either way, a zero block changes nothing, and halves are added apart.
 use mathlib.Core.Path.{_≡_, sym, ap, ap₂, _∙_}
 use mathlib.Core.List.{List, _++_}
-use Prim.Native.Nat.{ℕ, _+_, _<_}
+use Prim.Native.Nat.{ℕ, _+_}
 use lib.ListN.{length, length-append}
 use Rattle.algebra.specs.Field.{Ops, Laws}
 use Rattle.algebra.specs.Tabulate.{tabulate, length-tabulate, getD-tabulate, tabulate-cong, tabulate-getD}
@@ -34,7 +34,10 @@ module _ {A : Type 0} (K : Ops A) (F : Laws K) where
   pub zero-sum : (a : List A) → blockSum K (tabulate (length a) (λ i. K .nought)) a ≡ a
   unfolding blockSum
   zero-sum a =
-      ap (λ (k : ℕ). tabulate k (λ i. K .add (entry K (tabulate (length a) (λ i. K .nought)) i) (entry K a i))) (length-tabulate (length a) (λ i. K .nought))
+      ap (λ (k : ℕ). tabulate k (λ i. K .add (entry K zeros i) (entry K a i))) (length-tabulate (length a) (λ i. K .nought))
       ∙ tabulate-cong (length a)
       (λ i l. ap (λ (x : A). K .add x (entry K a i)) (getD-tabulate (length a) (λ i. K .nought) i (K .nought) l) ∙ F .nought-add (entry K a i))
       ∙ tabulate-getD a (K .nought)
+    where
+      zeros : List A
+      zeros = tabulate (length a) (λ i. K .nought)

@@ -6,7 +6,7 @@ ghost use lib.ListN.{length};
 ghost use Rattle.algebra.specs.Tabulate.{tabulate};
 ghost use Rattle.field.specs.Gf.{Width, gf};
 ghost use Rattle.dyadic.specs.Block.{blockSum, blockProduct, total, quotient};
-ghost use Rattle.dyadic.specs.Checked.{Elements, Factors};
+ghost use Rattle.dyadic.specs.Callers.{Elements, Factors};
 
 // The sum of two blocks, which is the same at every width.
 pub fn sum(a: &[Elem], b: &[Elem], out: &mut [Elem])

@@ -1,14 +1,13 @@
 -- The test of the rule works on stored inverses, and the test for equal entries on the first entry alone: why both are right.
-use mathlib.Core.Path.{_≡_, refl, sym, ap, ap₂, _∙_, subst}
+use mathlib.Core.Path.{_≡_, sym, ap, ap₂, _∙_, subst}
 use mathlib.Core.Logic.{_≢_}
 use mathlib.Core.Bool.{Bool, true}
 use mathlib.Core.List.{List}
-use Prim.Native.Nat.{ℕ, suc, _^_, _≤_, _<_}
-use native.Mathlib.Decide.{decLt}
+use Prim.Native.Nat.{ℕ, _<_}
 use native.Mathlib.Omega.{arith}
 use lib.Dec.{eqb}
 use lib.ListN.{length, getD, drop, List·getD-append}
-use Rattle.algebra.specs.All.{all, all-cong}
+use Rattle.algebra.specs.All.{all-cong}
 use Rattle.algebra.specs.Tabulate.{tabulate, length-tabulate, getD-tabulate, filled}
 use Rattle.algebra.specs.Xor.{_⊕_, xor, ⊕-eq}
 use Rattle.field.specs.Gf.{Width, gf, gf-laws}

@@ -1,12 +1,11 @@
 -- What `check` knows once its number is 0, and that the sums which it stores are the roots and the support.
-use mathlib.Core.Path.{_≡_, refl, sym, ap, ap₂, _∙_}
-use mathlib.Core.Bool.{Bool, true, _&&_}
+use mathlib.Core.Path.{_≡_, sym, ap, ap₂, _∙_}
+use mathlib.Core.Bool.{_&&_}
 use mathlib.Core.List.{List}
-use Prim.Native.Nat.{ℕ, suc, _^_, _≤_, _<_}
+use Prim.Native.Nat.{ℕ, _^_, _≤_, _<_}
 use native.Mathlib.Omega.{arith}
 use lib.Dec.{eqb}
 use lib.ListN.{length}
-use lib.Pow.{pow-mono}
 use borrow.Author.Tests.{eqb-true}
 use Rattle.algebra.specs.All.{both-true}
 use Rattle.algebra.specs.Tabulate.{tabulate, tabulate-cong, filled}
@@ -14,10 +13,10 @@ use Rattle.algebra.specs.Xor.{_⊕_, ⊕-assoc}
 use Rattle.field.specs.Gf.{gf}
 use Rattle.field.specs.Words.{widest}
 use Rattle.field.proofs.Shift.{element-fits}
-use Rattle.slices.specs.Lengths.{longest, longestLog}
+use Rattle.slices.specs.Lengths.{longest}
 use Rattle.params.specs.Existence.{rootAt, supportAt}
 use Rattle.params.specs.Tests.{entryOf, added, inverseAt}
-use Rattle.params.specs.Code.{accepted}
+use Rattle.params.specs.Code.{accepted, power-short}
 use Rattle.params.specs.Answers.{codeFault, checkFault}
 use Rattle.params.proofs.Inverses.{getD-stored}
 
@@ -28,23 +27,17 @@ module _ (m n t ω : ℕ) (h roots support : List ℕ) where
     pub short : n ≤ longest
     pub fits : ω < 2 ^ widest
 
-  -- the number k that a call finds, b saying whether both buffers have n entries
-  pub check-number : {k : ℕ} {b : Bool} → k ≡ codeFault b m n t ω h → b ≡ (eqb (length roots) n && eqb (length support) n)
-      → k ≡ checkFault m n t ω h roots support
-  unfolding checkFault
-  check-number e q = e ∙ ap (λ (b : Bool). codeFault b m n t ω h) q
-
   pub checked : checkFault m n t ω h roots support ≡ 0 → Checked
   unfolding checkFault codeFault
   checked z =
       let (lent, A) = accepted (eqb (length roots) n && eqb (length support) n) m n t ω h z in
       let (r, s) = both-true (eqb (length roots) n) (eqb (length support) n) lent in
-      let most : 2 ^ A .limits .e ≤ 2 ^ longestLog = pow-mono (A .limits .n-high) in
+      let L = A .limits in
       record {
         roots-long = eqb-true (length roots) n r;
         support-long = eqb-true (length support) n s;
-        short = omega (arith, A .limits .n-power);
-        fits = element-fits m (A .limits .width) ω (A .ω-in);
+        short = power-short n (L .e) (L .n-high) (L .n-power);
+        fits = element-fits m (L .width) ω (A .ω-in);
       }
 
 module _ (m n ω : ℕ) (h l old out : List ℕ) (stored : l ≡ filled (inverseAt m h) n old) (long : length out ≡ n) where

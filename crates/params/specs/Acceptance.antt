@@ -1,8 +1,8 @@
 -- Demands 1 and 2 of what `check` answers: within 01's limits it accepts a signature exactly if a Cauchy pair exists; what then stands in the buffers
 -- is such a pair, and every other offset is accepted too; where it refuses, the buffers are as they were.
 use mathlib.Core.Path.{_≡_, refl, sym, ap, ap₂, _∙_, subst}
-use mathlib.Core.Logic.{_≢_, _↔_}
-use mathlib.Core.Bool.{Bool, true, _&&_}
+use mathlib.Core.Logic.{_↔_}
+use mathlib.Core.Bool.{Bool, _&&_}
 use mathlib.Core.List.{List}
 use Prim.Native.Nat.{ℕ, zero, suc, _*_, _^_, _≤_, _<_}
 use native.Mathlib.Omega.{arith}
@@ -10,17 +10,16 @@ use lib.Dec.{eqb}
 use lib.ListN.{length, getD}
 use borrow.Author.Tests.{eq-eqb, eqb-true}
 use Rattle.algebra.specs.All.{both-true}
-use Rattle.algebra.specs.Field.{Ops, Laws}
+use Rattle.algebra.specs.Field.{Ops}
 use Rattle.algebra.specs.Tabulate.{tabulate, getD-tabulate}
 use Rattle.field.specs.Gf.{gf, gf-laws}
-use Rattle.field.specs.Rules.{fault, unless-refused}
-use Rattle.slices.specs.declared.Outcome.{Outcome}
+use Rattle.field.specs.Rules.{unless-refused}
 use Rattle.slices.specs.declared.Outcome.the-variants.{Done, Refused}
-use Rattle.params.specs.Signature.{Conditions, Cauchy, HasCauchy}
+use Rattle.params.specs.Signature.{Cauchy, HasCauchy}
 use Rattle.params.specs.Existence.{rootAt, supportAt, offset-pair, pair-conditions}
 use Rattle.params.specs.Pigeonhole.{cauchy-short}
-use Rattle.params.specs.Tests.{entryOf}
-use Rattle.params.specs.Code.{Limits, Accepted, codeRules, accepted, accepts}
+use Rattle.params.specs.Tests.{entryOf, both-hold}
+use Rattle.params.specs.Code.{Limits, Accepted, accepted, accepts}
 use Rattle.params.specs.Answers.{codeFault, checkFault, checkAnswer, rootsAfter, supportAfter}
 
 -- the roots and the support of an accepted code
@@ -64,7 +63,9 @@ module _ (m n t ω : ℕ) (h roots support : List ℕ) where
   pub refused-unchanged : (k : ℕ) → checkAnswer m n t ω h roots support ≡ Refused k
       → (rootsAfter m n t ω h roots support ≡ roots) × (supportAfter m n t ω h roots support ≡ support)
   unfolding checkAnswer rootsAfter supportAfter
-  refused-unchanged k e = (refused-same (checkFault m n t ω h roots support) k roots _ e, refused-same (checkFault m n t ω h roots support) k support _ e)
+  refused-unchanged k e =
+      let number = checkFault m n t ω h roots support in
+      (refused-same number k roots _ e, refused-same number k support _ e)
 
   pub done-accepted : checkAnswer m n t ω h roots support ≡ Done → Accepted m n t ω h
   unfolding checkAnswer checkFault codeFault
@@ -73,16 +74,15 @@ module _ (m n t ω : ℕ) (h roots support : List ℕ) where
   done-lengths : checkAnswer m n t ω h roots support ≡ Done → (length roots ≡ n) × (length support ≡ n)
   unfolding checkAnswer checkFault codeFault
   done-lengths e =
-      let (r, s) = both-true (eqb (length roots) n) (eqb (length support) n)
-      (accepted lent m n t ω h (done-zero (checkFault m n t ω h roots support) e) .0) in
+      let b = accepted lent m n t ω h (done-zero (checkFault m n t ω h roots support) e) .0 in
+      let (r, s) = both-true (eqb (length roots) n) (eqb (length support) n) b in
       (eqb-true (length roots) n r, eqb-true (length support) n s)
 
   pub accepted-done : length roots ≡ n → length support ≡ n → Accepted m n t ω h → checkAnswer m n t ω h roots support ≡ Done
   unfolding checkAnswer checkFault codeFault unless-refused
   accepted-done r s A =
       ap (λ (k : ℕ). unless-refused k Refused Done)
-      (accepts lent m n t ω h
-      (ap₂ (λ (a b : Bool). a && b) (eq-eqb (length roots) n r) (eq-eqb (length support) n s)) A)
+      (accepts lent m n t ω h (both-hold (eq-eqb (length roots) n r) (eq-eqb (length support) n s)) A)
 
   -- demand 2: "Within 01's limits a signature is accepted exactly if two disjoint sequences of distinct field elements exist whose Cauchy matrix is
   -- its dyadic matrix"

@@ -4,13 +4,12 @@
 -- (z_i + L_0) + (z_0 + L_j) + (z_0 + L_0).
 use mathlib.Core.Path.{_≡_, sym, ap, ap₂, _∙_, subst}
 use mathlib.Core.Logic.{_≢_, _↔_}
-use Prim.Native.Nat.{ℕ, suc, _^_, _<_}
+use Prim.Native.Nat.{ℕ, _^_, _<_}
 use native.Mathlib.Omega.{arith}
-use lib.Pow.{pow-pos}
 use Rattle.algebra.specs.Field.{Ops, Laws, ring, add-eq, inv-unique, inv≢nought}
 use Rattle.algebra.specs.Poly.{Distinct}
-use Rattle.algebra.specs.Xor.{_⊕_, ⊕-lt, ⊕-zero, zero-⊕, ⊕-self}
-use Rattle.params.specs.Signature.{NoZero, Linear, Conditions, Cauchy, HasCauchy}
+use Rattle.algebra.specs.Xor.{_⊕_, ⊕-lt, ⊕-zero, zero-⊕}
+use Rattle.params.specs.Signature.{Conditions, Cauchy, HasCauchy}
 
 -- 01: "z_i = 1/h_i + ω"
 unfoldable pub rootAt : {A : Type 0} → Ops A → A → (ℕ → A) → ℕ → A

@@ -6,3 +6,4 @@ pub mod Code
 pub mod Same
 pub mod Answers
 pub mod Acceptance
+pub mod Agreement

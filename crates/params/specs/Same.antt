@@ -1,15 +1,15 @@
 -- "Two cards are the same if m, n, t and h agree. The offset isn't looked at": as a computation, and what it says.
-use mathlib.Core.Path.{_≡_, refl, sym, ap, ap₂, _∙_, subst}
+use mathlib.Core.Path.{_≡_, ap}
 use mathlib.Core.Logic.{_↔_}
 use mathlib.Core.Bool.{Bool, true, _&&_}
 use mathlib.Core.List.{List}
 use Prim.Native.Nat.{ℕ}
 use lib.Dec.{eqb}
-use lib.ListN.{length, getD}
+use lib.ListN.{length}
 use lib.Seq.{ext-getD}
 use borrow.Author.Tests.{eqb-true, eq-eqb}
 use Rattle.algebra.specs.All.{all, all-is, all-true, both-true}
-use Rattle.params.specs.Tests.{entryOf}
+use Rattle.params.specs.Tests.{entryOf, both-hold}
 
 unfoldable pub sameEntry : List ℕ → List ℕ → ℕ → Bool
 sameEntry a b i = eqb (entryOf a i) (entryOf b i)
@@ -18,7 +18,7 @@ unfoldable pub sameEntries : List ℕ → List ℕ → Bool
 sameEntries a b = eqb (length a) (length b) && all (length a) (sameEntry a b)
 
 unfoldable pub sameCode : ℕ → ℕ → ℕ → List ℕ → ℕ → ℕ → ℕ → List ℕ → Bool
-sameCode m₁ n₁ t₁ h₁ m₂ n₂ t₂ h₂ = eqb m₁ m₂ && (eqb n₁ n₂ && (eqb t₁ t₂ && sameEntries h₁ h₂))
+sameCode m₁ n₁ t₁ h₁ m₂ n₂ t₂ h₂ = eqb m₁ m₂ && eqb n₁ n₂ && eqb t₁ t₂ && sameEntries h₁ h₂
 
 pub sameEntries-is : (a b : List ℕ) → (sameEntries a b ≡ true) ↔ (a ≡ b)
 unfolding sameEntries sameEntry
@@ -28,7 +28,7 @@ sameEntries-is a b = (
       ext-getD 0 a b (eqb-true (length a) (length b) long)
       (λ i l. eqb-true (entryOf a i) (entryOf b i) (all-is (length a) (sameEntry a b) each i l)),
   λ e.
-      ap₂ (λ (s t : Bool). s && t) (eq-eqb (length a) (length b) (ap length e))
+      both-hold (eq-eqb (length a) (length b) (ap length e))
       (all-true (length a) (sameEntry a b) (λ i l. eq-eqb (entryOf a i) (entryOf b i) (ap (λ (x : List ℕ). entryOf x i) e))),
 )
 
@@ -37,21 +37,10 @@ pub sameCode-is : (m₁ n₁ t₁ : ℕ) (h₁ : List ℕ) (m₂ n₂ t₂ : ℕ
 unfolding sameCode
 sameCode-is m₁ n₁ t₁ h₁ m₂ n₂ t₂ h₂ = (
   λ t.
-      let (m-same, u) = both-true (eqb m₁ m₂) (eqb n₁ n₂ && (eqb t₁ t₂ && sameEntries h₁ h₂)) t in
-      let (n-same, v) = both-true (eqb n₁ n₂) (eqb t₁ t₂ && sameEntries h₁ h₂) u in
-      let (t-same, h-same) = both-true (eqb t₁ t₂) (sameEntries h₁ h₂) v in
+      let (u, h-same) = both-true (eqb m₁ m₂ && eqb n₁ n₂ && eqb t₁ t₂) (sameEntries h₁ h₂) t in
+      let (v, t-same) = both-true (eqb m₁ m₂ && eqb n₁ n₂) (eqb t₁ t₂) u in
+      let (m-same, n-same) = both-true (eqb m₁ m₂) (eqb n₁ n₂) v in
       (eqb-true m₁ m₂ m-same, eqb-true n₁ n₂ n-same, eqb-true t₁ t₂ t-same, sameEntries-is h₁ h₂ .0 h-same),
   λ e.
-      ap₂ (λ (s t : Bool). s && t) (eq-eqb m₁ m₂ (e .0))
-      (ap₂ (λ (s t : Bool). s && t) (eq-eqb n₁ n₂ (e .1))
-      (ap₂ (λ (s t : Bool). s && t) (eq-eqb t₁ t₂ (e .2)) (sameEntries-is h₁ h₂ .1 (e .3)))),
+      both-hold (both-hold (both-hold (eq-eqb m₁ m₂ (e .0)) (eq-eqb n₁ n₂ (e .1))) (eq-eqb t₁ t₂ (e .2))) (sameEntries-is h₁ h₂ .1 (e .3)),
 )
-
--- where the numbers agree, the signatures decide
-pub same-signatures : (m₁ n₁ t₁ : ℕ) (h₁ : List ℕ) (m₂ n₂ t₂ : ℕ) (h₂ : List ℕ) → m₁ ≡ m₂ → n₁ ≡ n₂ → t₁ ≡ t₂
-    → sameCode m₁ n₁ t₁ h₁ m₂ n₂ t₂ h₂ ≡ sameEntries h₁ h₂
-unfolding sameCode
-same-signatures m₁ n₁ t₁ h₁ m₂ n₂ t₂ h₂ p q r =
-    ap (λ (s : Bool). s && (eqb n₁ n₂ && (eqb t₁ t₂ && sameEntries h₁ h₂))) (eq-eqb m₁ m₂ p)
-    ∙ ap (λ (s : Bool). s && (eqb t₁ t₂ && sameEntries h₁ h₂)) (eq-eqb n₁ n₂ q)
-    ∙ ap (λ (s : Bool). s && sameEntries h₁ h₂) (eq-eqb t₁ t₂ r)

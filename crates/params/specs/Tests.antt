@@ -1,10 +1,9 @@
 -- 01's three conditions as computations on a signature h of n entries, and that each is true exactly if the condition holds in the field of width m.
-use mathlib.Core.Path.{_≡_, refl, sym, ap, ap₂, _∙_, subst}
-use mathlib.Core.Logic.{_≢_, _↔_}
-use mathlib.Core.Bool.{Bool, true, false, not}
+use mathlib.Core.Path.{_≡_, ap, ap₂}
+use mathlib.Core.Logic.{_↔_}
+use mathlib.Core.Bool.{Bool, true, not, _&&_}
 use mathlib.Core.List.{List}
-use Prim.Native.Nat.{ℕ, suc, _<_}
-use native.Mathlib.Omega.{arith}
+use Prim.Native.Nat.{ℕ, _<_}
 use lib.Dec.{eqb}
 use lib.ListN.{length, getD}
 use borrow.Author.Tests.{eqb-true, eqb-false, eq-eqb, ne-eqb, not-true}
@@ -55,6 +54,9 @@ distinct n h = all n (λ j. all j (λ i. not (eqb (entryOf h i) (entryOf h j))))
 abbrev pub EqualToFirst : List ℕ → Type 0
 EqualToFirst h =
     (i j : ℕ) → i < j → j < length h → entryOf h i ≡ entryOf h j → (k : ℕ) × (0 < k) × (k < length h) × (entryOf h 0 ≡ entryOf h k)
+
+pub both-hold : {a b : Bool} → a ≡ true → b ≡ true → (a && b) ≡ true
+both-hold p q = ap₂ (λ (a b : Bool). a && b) p q
 
 pub noZero-is : (m n : ℕ) (h : List ℕ) → (noZero n h ≡ true) ↔ NoZero (gf m) n (entryOf h)
 unfolding noZero nonzero

@@ -4,7 +4,7 @@ use slices::LONGEST;
 ghost use mathlib.Core.Path.{_≡_};
 ghost use mathlib.Core.Bool.{true};
 ghost use Prim.Native.Nat.{_≤_};
-ghost use lib.ListN.{length, getD};
+ghost use lib.ListN.{length};
 ghost use Rattle.algebra.specs.Tabulate.{filled};
 ghost use Rattle.field.specs.Gf.{Width};
 ghost use Rattle.field.specs.Rules.{fault};
@@ -53,38 +53,23 @@ pub fn code_fault_inverses(
 fn is_length(n: u32) -> bool
     ensures { λ r. ⌜ r ≡ isLength n ⌝ }
 {
-    if n < 2 {
-        return false;
-    }
-    slices::is_power(n as usize)
+    (2 <= n) & slices::is_power(n as usize)
 }
 
 fn is_root_count(n: u32, t: u32) -> bool
     ensures { λ r. ⌜ r ≡ isRootCount n t ⌝ }
 {
-    if !slices::is_power(t as usize) {
-        return false;
-    }
-    2 * t <= n
+    slices::is_power(t as usize) & (t <= n / 2)
 }
 
 // 1 to 3: numbers and lengths.
 fn shape_fault(m: u32, n: u32, omega: u32, h: &[Elem], buffers: bool) -> u32
     ensures { λ r. ⌜ r ≡ fault (shapeRules buffers m n omega (now (h .entry))) ⌝ }
 {
-    if m < field::internal::NARROWEST {
+    if !((field::internal::NARROWEST <= m) & (m <= field::internal::WIDEST)) {
         return 1;
     }
-    if field::internal::WIDEST < m {
-        return 1;
-    }
-    if !is_length(n) {
-        return 2;
-    }
-    if h.len() != n as usize {
-        return 2;
-    }
-    if !buffers {
+    if !(is_length(n) & (h.len() == n as usize) & buffers) {
         return 2;
     }
     if !slices::all_elements(m, h) {

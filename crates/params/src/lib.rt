@@ -7,13 +7,11 @@ use field::Elem;
 use slices::LONGEST;
 use slices::Outcome;
 ghost use mathlib.Core.Path.{_≡_};
-ghost use mathlib.Core.Bool.{_&&_};
 ghost use Prim.Native.Nat.{_≤_, _<_};
-ghost use lib.Dec.{eqb};
 ghost use lib.ListN.{length};
 ghost use Rattle.algebra.specs.Tabulate.{tabulate};
 ghost use Rattle.params.specs.Tests.{added};
-ghost use Rattle.params.specs.Same.{sameEntries, sameCode};
+ghost use Rattle.params.specs.Same.{sameEntries};
 ghost use Rattle.params.specs.Answers.{checkAnswer, rootsAfter, supportAfter, lowest, sameAnswer};
 
 // Whether two codes are the same.
@@ -38,7 +36,7 @@ pub fn check(
     ensures { λ _. ⌜ now (support .exit) ≡ supportAfter m n t omega (now (h .entry)) (now (roots .entry)) (now (support .entry)) ⌝ }
 {
     let mut inverses: [Elem; LONGEST] = [0; LONGEST];
-    let lent = both_have(n as usize, roots.len(), support.len());
+    let lent = (roots.len() == n as usize) & (support.len() == n as usize);
     let number = internal::code_fault_inverses(m, n, t, omega, h, lent, &mut inverses);
     if number != 0 {
         return Outcome::Refused(number);
@@ -69,42 +67,19 @@ pub fn same(
     if number != 0 {
         return Sameness::Refused(number);
     }
-    if agree(m1, n1, t1, h1, m2, n2, t2, h2) {
+    if (m1 == m2) & (n1 == n2) & (t1 == t2) & same_entries(h1, h2) {
         return Sameness::Same;
     }
     Sameness::Different
-}
-
-fn agree(m1: u32, n1: u32, t1: u32, h1: &[Elem], m2: u32, n2: u32, t2: u32, h2: &[Elem]) -> bool
-    ensures { λ r. ⌜ r ≡ sameCode m1 n1 t1 (now (h1 .entry)) m2 n2 t2 (now (h2 .entry)) ⌝ }
-{
-    if m1 != m2 {
-        return false;
-    }
-    if n1 != n2 {
-        return false;
-    }
-    if t1 != t2 {
-        return false;
-    }
-    same_entries(h1, h2)
-}
-
-// Whether two lengths are both n.
-fn both_have(n: usize, a: usize, b: usize) -> bool
-    ensures { λ r. ⌜ r ≡ (eqb a n && eqb b n) ⌝ }
-{
-    if a != n {
-        return false;
-    }
-    b == n
 }
 
 // The roots and the support that the inverses and the offset give, as many as the buffers hold.
 fn store(inverses: &[Elem], offset: Elem, roots: &mut [Elem], support: &mut [Elem])
     requires { ⌜ (0 < length (now inverses)) × (length (now roots) ≤ length (now inverses)) × (length (now support) ≤ length (now inverses)) ⌝ }
     ensures { λ _. ⌜ now (roots .exit) ≡ tabulate (length (now (roots .entry))) (added (now (inverses .entry)) offset) ⌝ }
-    ensures { λ _. ⌜ now (support .exit) ≡ tabulate (length (now (support .entry))) (added (now (inverses .entry)) (added (now (inverses .entry)) offset 0)) ⌝ }
+    ensures { λ _.
+        ⌜ now (support .exit)
+        ≡ tabulate (length (now (support .entry))) (added (now (inverses .entry)) (added (now (inverses .entry)) offset 0)) ⌝ }
 {
     let first = inverses[0];
     add_each(inverses, offset, roots);

@@ -1,13 +1,10 @@
 -- `product` meets its contract: its rules give what the inner product asks, and what that adds to the cleared buffer is the product.
-use mathlib.Core.Path.{sym, ap, _∙_}
-use mathlib.Core.List.{List}
-use Prim.Native.Nat.{ℕ}
+use mathlib.Core.Path.{sym, _∙_}
 use borrow.Author.Needs.{needs}
-use Rattle.field.specs.Rules.{refuse, accept}
-use Rattle.slices.specs.declared.Outcome.the-variants.{Done, Refused}
 use Rattle.dyadic.specs.Answers.{productAnswer}
 use Rattle.dyadic.proofs.Checked.{pair-checked}
 use Rattle.dyadic.proofs.Adding.{cleared, into-cleared}
+use Rattle.dyadic.proofs.Ending.{refused, done}
 use Rattle.dyadic.proofs.product.Statement.{statement}
 use Rattle.dyadic.proofs.product.Tie as tie
 
@@ -16,9 +13,7 @@ pair-fault-requires c κs = search needs
 
 returns : tie.Need-returns
 unfolding productAnswer
-returns c =
-    let g = c .before .before .before .before .before .args in
-    refuse (λ (n : ℕ). (Refused n, g .out .now)) _ (c .before .pair-fault .ensures) (c .if1 .taken)
+returns c = refused _ _ (c .before .pair-fault .ensures) (c .if1 .taken)
 
 clear-requires : tie.Need-clear-requires
 clear-requires c κs = search needs
@@ -39,10 +34,9 @@ returns-2 c =
     let e = c .before .before .before .before .before .before .before .before in
     let g = e .before .before .before .before .before .args in
     let f = pair-checked (g .m) (g .a .now) (g .b .now) (g .out .now) (sym (e .before .pair-fault .ensures) ∙ e .if1 .left) in
-    ap (λ (x : List ℕ). (Done, x))
-    (c .before .before .add-product .ensures
-    ∙ into-cleared (g .m) (g .a .now) (g .b .now) (g .out .now) _ (c .before .before .before .before .before .before .clear .ensures) f)
-    ∙ accept (λ (n : ℕ). (Refused n, g .out .now)) _ (e .before .pair-fault .ensures) (e .if1 .left)
+    done _ _ (e .before .pair-fault .ensures) (e .if1 .left) _
+    (into-cleared (g .m) (g .a .now) (g .b .now) (g .out .now) _ _ f (c .before .before .before .before .before .before .clear .ensures)
+    (c .before .before .add-product .ensures))
 
 pub product-spec : {M : Type 1} → statement M
 product-spec =

@@ -1,15 +1,9 @@
 -- `sum` meets its contract: its rules give what the inner sum asks.
-use mathlib.Core.Path.{sym, ap, _∙_}
-use mathlib.Core.List.{List}
-use Prim.Native.Nat.{ℕ}
-use lib.ListN.{length}
+use mathlib.Core.Path.{sym, _∙_}
 use borrow.Author.Needs.{needs}
-use Rattle.field.specs.Gf.{gf}
-use Rattle.field.specs.Rules.{refuse, accept}
-use Rattle.slices.specs.declared.Outcome.the-variants.{Done, Refused}
-use Rattle.dyadic.specs.Block.{blockSum}
 use Rattle.dyadic.specs.Answers.{sumAnswer}
 use Rattle.dyadic.proofs.Checked.{pair-checked}
+use Rattle.dyadic.proofs.Ending.{refused, done}
 use Rattle.dyadic.proofs.sum.Statement.{statement}
 use Rattle.dyadic.proofs.sum.Tie as tie
 
@@ -18,9 +12,7 @@ pair-fault-requires c κs = search needs
 
 returns : tie.Need-returns
 unfolding sumAnswer
-returns c =
-    let g = c .before .before .before .before .before .args in
-    refuse (λ (n : ℕ). (Refused n, g .out .now)) _ (c .before .pair-fault .ensures) (c .if1 .taken)
+returns c = refused _ _ (c .before .pair-fault .ensures) (c .if1 .taken)
 
 sum-requires : tie.Need-sum-requires
 sum-requires c κs =
@@ -34,9 +26,9 @@ same-length c = search needs
 returns-2 : tie.Need-returns-2
 unfolding sumAnswer
 returns-2 c =
-    let g = c .before .before .before .before .before .before .before .before .before .args in
-    ap (λ (x : List ℕ). (Done, x)) (c .before .before .sum .ensures (g .m))
-    ∙ accept (λ (n : ℕ). (Refused n, g .out .now)) _ (c .before .before .before .before .before .pair-fault .ensures) (c .before .before .before .before .if1 .left)
+    let e = c .before .before .before .before in
+    let g = e .before .before .before .before .before .args in
+    done _ _ (e .before .pair-fault .ensures) (e .if1 .left) _ (c .before .before .sum .ensures (g .m))
 
 pub sum-spec : {M : Type 1} → statement M
 sum-spec = tie.close (tie.spec pair-fault-requires returns sum-requires same-length returns-2)

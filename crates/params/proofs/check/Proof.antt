@@ -4,13 +4,10 @@ use native.Mathlib.Omega.{arith}
 use borrow.Author.Needs.{needs}
 use Rattle.field.specs.Rules.{refuse, accept}
 use Rattle.slices.specs.declared.Outcome.the-variants.{Refused}
-use Rattle.params.specs.Answers.{checkAnswer, rootsAfter, supportAfter}
-use Rattle.params.proofs.Stored.{check-number, checked, roots-are, support-is}
+use Rattle.params.specs.Answers.{checkFault, checkAnswer, rootsAfter, supportAfter}
+use Rattle.params.proofs.Stored.{checked, roots-are, support-is}
 use Rattle.params.proofs.check.Statement.{statement}
 use Rattle.params.proofs.check.Tie as tie
-
-both-have-requires : tie.Need-both-have-requires
-both-have-requires c κs = search needs
 
 slice-aggregate-code-fault-inverses : tie.Need-slice-aggregate-code-fault-inverses
 slice-aggregate-code-fault-inverses c = search needs
@@ -19,32 +16,32 @@ code-fault-inverses-requires : tie.Need-code-fault-inverses-requires
 code-fault-inverses-requires c κs = search needs
 
 returns : tie.Need-returns
-unfolding checkAnswer rootsAfter supportAfter
+unfolding checkFault checkAnswer rootsAfter supportAfter
 returns c =
     let d = c .before .before in
-    let a = d .before .before .before .before .before .before .args in
-    let number = check-number (a .m) (a .n) (a .t) (a .omega) (a .h .now) (a .roots .now) (a .support .now) (d .code-fault-inverses .ensures .0)
-    (d .before .before .both-have .ensures) in
-    (refuse Refused _ number (c .if1 .taken), (refuse (λ k. a .roots .now) _ number (c .if1 .taken), refuse (λ k. a .support .now) _ number (c .if1 .taken)))
+    let a = d .before .before .before .before .before .args in
+    let number = d .code-fault-inverses .ensures .0 in
+    let due = c .if1 .taken in
+    (refuse Refused _ number due, (refuse (λ k. a .roots .now) _ number due, refuse (λ k. a .support .now) _ number due))
 
 slice-aggregate-store : tie.Need-slice-aggregate-store
 slice-aggregate-store c = search needs
 
 cast-store : tie.Need-cast-store
+unfolding checkFault
 cast-store c =
     let d = c .before .before .before in
-    let a = d .before .before .before .before .before .before .args in
-    let number = check-number (a .m) (a .n) (a .t) (a .omega) (a .h .now) (a .roots .now) (a .support .now) (d .code-fault-inverses .ensures .0)
-    (d .before .before .both-have .ensures) in
+    let a = d .before .before .before .before .before .args in
+    let number = d .code-fault-inverses .ensures .0 in
     let K = checked (a .m) (a .n) (a .t) (a .omega) (a .h .now) (a .roots .now) (a .support .now) (sym number ∙ c .before .if1 .left) in
     record { fits = K .fits }
 
 store-requires : tie.Need-store-requires
+unfolding checkFault
 store-requires c κs =
     let d = c .before .before .before .before .before in
-    let a = d .before .before .before .before .before .before .args in
-    let number = check-number (a .m) (a .n) (a .t) (a .omega) (a .h .now) (a .roots .now) (a .support .now) (d .code-fault-inverses .ensures .0)
-    (d .before .before .both-have .ensures) in
+    let a = d .before .before .before .before .before .args in
+    let number = d .code-fault-inverses .ensures .0 in
     let K = checked (a .m) (a .n) (a .t) (a .omega) (a .h .now) (a .roots .now) (a .support .now) (sym number ∙ c .before .before .before .if1 .left) in
     omega (arith, K .roots-long, K .support-long, K .short)
 
@@ -55,12 +52,11 @@ same-length-2 : tie.Need-same-length-2
 same-length-2 c = search needs
 
 returns-2 : tie.Need-returns-2
-unfolding checkAnswer rootsAfter supportAfter
+unfolding checkFault checkAnswer rootsAfter supportAfter
 returns-2 c =
     let d = c .before .before .before .before .before .before .before .before .before .before in
-    let a = d .before .before .before .before .before .before .args in
-    let number = check-number (a .m) (a .n) (a .t) (a .omega) (a .h .now) (a .roots .now) (a .support .now) (d .code-fault-inverses .ensures .0)
-    (d .before .before .both-have .ensures) in
+    let a = d .before .before .before .before .before .args in
+    let number = d .code-fault-inverses .ensures .0 in
     let none = c .before .before .before .before .before .before .before .before .if1 .left in
     let K = checked (a .m) (a .n) (a .t) (a .omega) (a .h .now) (a .roots .now) (a .support .now) (sym number ∙ none) in
     let stored = d .code-fault-inverses .ensures .1 none in
@@ -77,7 +73,6 @@ pub check-spec : {M : Type 1} → statement M
 check-spec =
     tie.close
     (tie.spec
-    both-have-requires
     slice-aggregate-code-fault-inverses
     code-fault-inverses-requires
     returns

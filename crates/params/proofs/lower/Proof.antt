@@ -1,5 +1,5 @@
 -- `lower` meets its contract.
-use mathlib.Core.Path.{sym, _∙_}
+use mathlib.Core.Path.{sym}
 use native.Mathlib.Omega.{arith}
 use Rattle.params.proofs.Lowest.{lowest-left, lowest-right, lowest-min}
 use Rattle.params.proofs.lower.Statement.{statement}

@@ -1,8 +1,11 @@
 -- `same` meets its contract: the lower number of the two codes, or what the comparison gives.
 use mathlib.Core.Path.{sym, ap, ap₂, _∙_}
+use mathlib.Core.Bool.{Bool, _&&_}
+use lib.Dec.{eqb}
 use borrow.Author.Needs.{needs}
 use Rattle.field.specs.Rules.{refuse, accept}
 use Rattle.params.specs.declared.Sameness.the-variants.{Refused}
+use Rattle.params.specs.Same.{sameCode}
 use Rattle.params.specs.Answers.{lowest, compared, sameFault, sameAnswer}
 use Rattle.params.proofs.same.Statement.{statement}
 use Rattle.params.proofs.same.Tie as tie
@@ -19,27 +22,34 @@ lower-requires c κs = search needs
 returns : tie.Need-returns
 unfolding sameAnswer sameFault
 returns c =
-    let d = c .before .before .before in
-    refuse Refused _ (c .before .lower .ensures ∙ ap₂ lowest (d .code-fault .ensures) (c .before .before .code-fault2 .ensures)) (c .if1 .taken)
+    let l = c .before in
+    let number = l .lower .ensures ∙ ap₂ lowest (l .before .before .code-fault .ensures) (l .before .code-fault2 .ensures) in
+    refuse Refused _ number (c .if1 .taken)
 
-agree-requires : tie.Need-agree-requires
-agree-requires c κs = search needs
+same-entries-requires : tie.Need-same-entries-requires
+same-entries-requires c κs = search needs
 
 returns-2 : tie.Need-returns-2
-unfolding sameAnswer sameFault compared
+unfolding sameAnswer sameFault compared sameCode
 returns-2 c =
     let l = c .before .before .before in
+    let a = l .before .before .before .before .before .args in
     let number = l .lower .ensures ∙ ap₂ lowest (l .before .before .code-fault .ensures) (l .before .code-fault2 .ensures) in
-    ap compared (sym (c .if2 .taken) ∙ c .before .agree .ensures) ∙ accept Refused _ number (c .before .before .if1 .left)
+    let numbers : Bool = eqb (a .m1) (a .m2) && eqb (a .n1) (a .n2) && eqb (a .t1) (a .t2) in
+    ap compared (sym (c .if2 .taken) ∙ ap (λ (b : Bool). numbers && b) (c .before .same-entries .ensures))
+    ∙ accept Refused _ number (c .before .before .if1 .left)
 
 returns-3 : tie.Need-returns-3
-unfolding sameAnswer sameFault compared
+unfolding sameAnswer sameFault compared sameCode
 returns-3 c =
     let l = c .before .before .before in
+    let a = l .before .before .before .before .before .args in
     let number = l .lower .ensures ∙ ap₂ lowest (l .before .before .code-fault .ensures) (l .before .code-fault2 .ensures) in
-    ap compared (sym (c .if2 .left) ∙ c .before .agree .ensures) ∙ accept Refused _ number (c .before .before .if1 .left)
+    let numbers : Bool = eqb (a .m1) (a .m2) && eqb (a .n1) (a .n2) && eqb (a .t1) (a .t2) in
+    ap compared (sym (c .if2 .left) ∙ ap (λ (b : Bool). numbers && b) (c .before .same-entries .ensures))
+    ∙ accept Refused _ number (c .before .before .if1 .left)
 
 pub same-spec : {M : Type 1} → statement M
 same-spec =
     tie.close
-    (tie.spec code-fault-requires code-fault-requires-2 lower-requires returns agree-requires returns-2 returns-3)
+    (tie.spec code-fault-requires code-fault-requires-2 lower-requires returns same-entries-requires returns-2 returns-3)

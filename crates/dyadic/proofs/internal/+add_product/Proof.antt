@@ -1,13 +1,17 @@
--- `internal::add_product` meets its contract. The measure is the length of the factors.
-use mathlib.Core.Path.{_≡_, sym, _∙_}
+-- `internal::add_product` meets its contract. The measure is the length of the factors. The buffer goes through four calls as two halves: p1 to p4
+-- say what is added to each after the first, .., the fourth.
+use mathlib.Core.Path.{_≡_, sym, ap, _∙_}
 use mathlib.Core.List.{List}
 use Prim.Native.Nat.{ℕ, _/_, _<_}
 use lib.ListN.{length, drop}
 use borrow.Author.Needs.{needs}
 use borrow.Fn.Kinds.{In}
 use borrow.Fn.PlainCycle.{Measures, is, falls, and}
-use Rattle.dyadic.specs.Checked.{Factors}
-use Rattle.dyadic.proofs.Adding.{low, Half, Halved, halved, called, Parts, parts-length, low-room, high-room, parts-start, add-low, add-high, parts-end}
+use Rattle.field.specs.Gf.{gf}
+use Rattle.dyadic.specs.Entries.{length-sum}
+use Rattle.dyadic.specs.Callers.{Factors}
+use Rattle.dyadic.proofs.Halving.{low, Half, Halved, halved, called}
+use Rattle.dyadic.proofs.Adding.{Parts, low-room, high-room, parts-start, add-low, add-high, parts-end}
 use Rattle.dyadic.proofs.internal.add_product.Reads as reads
 use Rattle.dyadic.proofs.internal.add_product.Kinds as kinds
 use Rattle.dyadic.proofs.internal.+add_product.Lts-add_product as lts
@@ -25,6 +29,7 @@ given t = and 3 kinds.ps (is 3 kinds.ps μ t) reads.Pre
 abbrev callees : ℕ → lts.Claims
 callees t = (single-reads.Asked, single-reads.Learnt, and 3 kinds.ps (falls 3 kinds.ps _<_ μ t) reads.Pre, reads.Post)
 
+-- the arguments where the length is not one, and what is known of their halves
 module _ (t : ℕ) (c : lts.Else1 (callees t) (given t) reads.Post) where
   abbrev m : ℕ
   m = c .before .before .before .before .args .m
@@ -99,14 +104,16 @@ slice-relend-prefix-add-product-2 t c = search needs
 
 slice-aggregate-add-product-2 : (t : ℕ) → lts.Need-slice-aggregate-add-product-2 (callees t) (given t) reads.Post
 slice-aggregate-add-product-2 t c =
-    let e = c .before .before .before .before .before .before .before .before .before in
-    let p1 = add-low (m t e) _ _ (parts t e) (c .before .before .before .add-product .ensures) in
+    let c1 = c .before .before .before in
+    let e = c1 .before .before .before .before .before .before in
+    let p1 = add-low (m t e) _ _ (parts t e) (c1 .add-product .ensures) in
     sym (low-room p1)
 
 add-product-requires-2 : (t : ℕ) → lts.Need-add-product-requires-2 (callees t) (given t) reads.Post
 add-product-requires-2 t c κs =
-    let e = c .before .before .before .before .before .before .before .before .before in
-    let p1 = add-low (m t e) _ _ (parts t e) (c .before .before .before .add-product .ensures) in
+    let c1 = c .before .before .before in
+    let e = c1 .before .before .before .before .before .before in
+    let p1 = add-low (m t e) _ _ (parts t e) (c1 .add-product .ensures) in
     call t e (known t e .a-high) (known t e .b-high) _ (low-room p1)
 
 sub-add-product : (t : ℕ) → lts.Need-sub-add-product (callees t) (given t) reads.Post
@@ -120,9 +127,11 @@ part-add-product-end t c = search needs
 
 add-product-requires-3 : (t : ℕ) → lts.Need-add-product-requires-3 (callees t) (given t) reads.Post
 add-product-requires-3 t c κs =
-    let e = c .before .before .before .before .before .before .before .before .before .before .before .before .before in
-    let p1 = add-low (m t e) _ _ (parts t e) (c .before .before .before .before .before .before .before .add-product .ensures) in
-    let p2 = add-low (m t e) _ _ p1 (c .before .before .before .add-product2 .ensures) in
+    let c2 = c .before .before .before in
+    let c1 = c2 .before .before .before .before in
+    let e = c1 .before .before .before .before .before .before in
+    let p1 = add-low (m t e) _ _ (parts t e) (c1 .add-product .ensures) in
+    let p2 = add-low (m t e) _ _ p1 (c2 .add-product2 .ensures) in
     call t e (known t e .a-low) (known t e .b-high) _ (high-room p2)
 
 sub-add-product-2 : (t : ℕ) → lts.Need-sub-add-product-2 (callees t) (given t) reads.Post
@@ -136,29 +145,30 @@ part-add-product-end-2 t c = search needs
 
 add-product-requires-4 : (t : ℕ) → lts.Need-add-product-requires-4 (callees t) (given t) reads.Post
 add-product-requires-4 t c κs =
-    let e = c .before .before .before .before .before .before .before .before .before .before .before .before .before .before .before .before .before in
-    let p1 = add-low (m t e) _ _ (parts t e) (c .before .before .before .before .before .before .before .before .before .before .before .add-product .ensures) in
-    let p2 = add-low (m t e) _ _ p1 (c .before .before .before .before .before .before .before .add-product2 .ensures) in
-    let p3 = add-high (m t e) _ _ p2 (c .before .before .before .add-product3 .ensures) in
+    let c3 = c .before .before .before in
+    let c2 = c3 .before .before .before .before in
+    let c1 = c2 .before .before .before .before in
+    let e = c1 .before .before .before .before .before .before in
+    let p1 = add-low (m t e) _ _ (parts t e) (c1 .add-product .ensures) in
+    let p2 = add-low (m t e) _ _ p1 (c2 .add-product2 .ensures) in
+    let p3 = add-high (m t e) _ _ p2 (c3 .add-product3 .ensures) in
     call t e (known t e .a-high) (known t e .b-low) _ (high-room p3)
-
-same-length-2 : (t : ℕ) → lts.Need-same-length-2 (callees t) (given t) reads.Post
-same-length-2 t c =
-    let e = c .before .before .before .before .before .before .before .before .before .before .before .before .before .before .before .before .before .before .before .before in
-    let p1 = add-low (m t e) _ _ (parts t e) (c .before .before .before .before .before .before .before .before .before .before .before .before .before .before .add-product .ensures) in
-    let p2 = add-low (m t e) _ _ p1 (c .before .before .before .before .before .before .before .before .before .before .add-product2 .ensures) in
-    let p3 = add-high (m t e) _ _ p2 (c .before .before .before .before .before .before .add-product3 .ensures) in
-    let p4 = add-high (m t e) _ _ p3 (c .before .before .add-product4 .ensures) in
-    parts-length p4 ∙ sym (known t e .length-out)
 
 returns-2 : (t : ℕ) → lts.Need-returns-2 (callees t) (given t) reads.Post
 returns-2 t c =
-    let e = c .before .before .before .before .before .before .before .before .before .before .before .before .before .before .before .before .before .before .before .before in
-    let p1 = add-low (m t e) _ _ (parts t e) (c .before .before .before .before .before .before .before .before .before .before .before .before .before .before .add-product .ensures) in
-    let p2 = add-low (m t e) _ _ p1 (c .before .before .before .before .before .before .before .before .before .before .add-product2 .ensures) in
-    let p3 = add-high (m t e) _ _ p2 (c .before .before .before .before .before .before .add-product3 .ensures) in
-    let p4 = add-high (m t e) _ _ p3 (c .before .before .add-product4 .ensures) in
+    let c4 = c .before .before in
+    let c3 = c4 .before .before .before .before in
+    let c2 = c3 .before .before .before .before in
+    let c1 = c2 .before .before .before .before in
+    let e = c1 .before .before .before .before .before .before in
+    let p1 = add-low (m t e) _ _ (parts t e) (c1 .add-product .ensures) in
+    let p2 = add-low (m t e) _ _ p1 (c2 .add-product2 .ensures) in
+    let p3 = add-high (m t e) _ _ p2 (c3 .add-product3 .ensures) in
+    let p4 = add-high (m t e) _ _ p3 (c4 .add-product4 .ensures) in
     parts-end (m t e) (h t e) (a t e) (b t e) (out t e) _ (known t e) p4
+
+same-length-2 : (t : ℕ) → lts.Need-same-length-2 (callees t) (given t) reads.Post
+same-length-2 t c = ap length (returns-2 t c) ∙ length-sum (gf _) _ _
 
 pub +add-product-spec : {M : Type 1} → statement M
 +add-product-spec =

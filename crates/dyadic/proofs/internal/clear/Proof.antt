@@ -1,30 +1,23 @@
 -- `internal::clear` meets its contract: the loop fills the buffer with zeros.
 use mathlib.Core.Path.{refl}
 use Prim.Native.Nat.{ℕ, _-_}
-use native.Mathlib.Omega.{arith}
 use lib.ListN.{length}
 use borrow.Author.Needs.{needs}
-use Rattle.dyadic.proofs.Filling.{Filling, filling-start, filling-length, filling-turn, filling-end}
+use Rattle.algebra.specs.Tabulate.{Filling, filling-start, filling-length, filling-index, filling-turn, filling-end}
 use Rattle.dyadic.proofs.internal.clear.Statement.{statement}
 use Rattle.dyadic.proofs.internal.clear.Tie as tie
 
-abbrev zeros : ℕ → ℕ
-zeros j = 0
-
 abbrev Inv-loop : tie.InvT-loop
-Inv-loop out₀ i₀ i-end out i = Filling zeros (length out₀) out₀ i-end out i
+Inv-loop out₀ i₀ i-end out i = Filling (λ (j : ℕ). 0) (length out₀) out₀ out i
 
 abbrev μ-loop : tie.MeasureT-loop
-μ-loop out₀ i₀ i-end out i = i-end - i
+μ-loop out₀ i₀ i-end out i = length out₀ - i
 
 loop-holds : tie.Need-loop-holds Inv-loop μ-loop
-loop-holds c = filling-start zeros (length (c .args .out .now)) (c .args .out .now) refl
+loop-holds c = filling-start (λ (j : ℕ). 0) (length (c .args .out .now)) (c .args .out .now) refl
 
 slice-write-out : tie.Need-slice-write-out Inv-loop μ-loop
-slice-write-out c =
-    let l = c .before .loop in
-    let old = c .before .before .args .out .now in
-    omega (arith, filling-length zeros (length old) old _ (l .out) (l .i) (l .inv))
+slice-write-out c = filling-index (c .before .loop .inv) (c .loop-test .taken)
 
 add-i : tie.Need-add-i Inv-loop μ-loop
 add-i c = search needs
@@ -33,22 +26,13 @@ loop-less : tie.Need-loop-less Inv-loop μ-loop
 loop-less c = search needs
 
 loop-again : tie.Need-loop-again Inv-loop μ-loop
-loop-again c =
-    let l = c .before .loop in
-    let old = c .before .before .args .out .now in
-    filling-turn zeros (length old) old _ (l .out) (l .i) (c .loop-test .taken) (l .inv)
+loop-again c = filling-turn (c .before .loop .inv) (c .loop-test .taken) refl
 
 same-length : tie.Need-same-length Inv-loop μ-loop
-same-length c =
-    let l = c .before .loop in
-    let old = c .before .before .args .out .now in
-    filling-length zeros (length old) old _ (l .out) (l .i) (l .inv)
+same-length c = filling-length (c .before .loop .inv)
 
 returns : tie.Need-returns Inv-loop μ-loop
-returns c =
-    let l = c .before .loop in
-    let old = c .before .before .args .out .now in
-    filling-end zeros (length old) old _ (l .out) (l .i) (c .loop-test .left) (l .inv)
+returns c = filling-end (c .before .loop .inv) (c .loop-test .left)
 
 pub clear-spec : {M : Type 1} → statement M
 clear-spec = tie.close (tie.spec Inv-loop μ-loop loop-holds slice-write-out add-i loop-less loop-again same-length returns)

@@ -1,13 +1,12 @@
 -- `internal::divide` meets its contract: the loop fills the buffer with the quotients of entries.
-use mathlib.Core.Path.{_≡_, sym, ap, subst, _∙_}
+use mathlib.Core.Path.{ap, _∙_}
 use mathlib.Core.List.{List}
-use Prim.Native.Nat.{ℕ, _+_, _-_, _<_, _^_}
-use native.Mathlib.Omega.{arith}
-use lib.ListN.{length, getD, set}
+use Prim.Native.Nat.{ℕ, _-_}
+use lib.ListN.{length, getD}
 use borrow.Author.Needs.{needs}
-use Rattle.field.specs.Gf.{gf, Width}
+use Rattle.algebra.specs.Tabulate.{Filling, filling-start, filling-length, filling-index, filling-turn, filling-end}
+use Rattle.field.specs.Gf.{gf}
 use Rattle.dyadic.specs.Block.{quotient}
-use Rattle.dyadic.proofs.Filling.{Filling, filling-start, filling-length, filling-turn, filling-end}
 use Rattle.dyadic.proofs.internal.divide.Statement.{statement}
 use Rattle.dyadic.proofs.internal.divide.Tie as tie
 
@@ -15,10 +14,10 @@ abbrev quotients : ℕ → List ℕ → ℕ → ℕ → ℕ
 quotients m a c j = gf m .mul (getD a j 0) (gf m .inv c)
 
 abbrev Inv-loop : tie.InvT-loop
-Inv-loop m a c out₀ factor i₀ i-end out i = Filling (quotients m a c) (length a) out₀ i-end out i
+Inv-loop m a c out₀ factor i₀ i-end out i = Filling (quotients m a c) (length a) out₀ out i
 
 abbrev μ-loop : tie.MeasureT-loop
-μ-loop m a c out₀ factor i₀ i-end out i = i-end - i
+μ-loop m a c out₀ factor i₀ i-end out i = length a - i
 
 inverse-requires : tie.Need-inverse-requires Inv-loop μ-loop
 inverse-requires c κs = (c .before .before .pre .0, c .before .before .pre .2)
@@ -34,13 +33,10 @@ shared-slice-read-product c = search needs
 product-requires : tie.Need-product-requires Inv-loop μ-loop
 product-requires c κs =
     let pre = c .before .before .before .before .before .before .pre in
-    (pre .0, pre .1 (c .before .before .loop .i) (omega arith), c .before .before .before .inverse .ensures .1)
+    (pre .0, pre .1 (c .before .before .loop .i) (c .before .loop-test .taken), c .before .before .before .inverse .ensures .1)
 
 slice-write-out : tie.Need-slice-write-out Inv-loop μ-loop
-slice-write-out c =
-    let l = c .before .before .before .loop in
-    let g = c .before .before .before .before .before .before .before .args in
-    omega (arith, filling-length (quotients (g .m) (g .a .now) (g .c)) (length (g .a .now)) (g .out .now) _ (l .out) (l .i) (l .inv))
+slice-write-out c = filling-index (c .before .before .before .loop .inv) (c .before .before .loop-test .taken)
 
 add-i : tie.Need-add-i Inv-loop μ-loop
 add-i c = search needs
@@ -52,22 +48,15 @@ loop-again : tie.Need-loop-again Inv-loop μ-loop
 loop-again c =
     let l = c .before .before .before .loop in
     let g = c .before .before .before .before .before .before .before .args in
-    let stored = c .product .ensures .0 ∙ ap (gf (g .m) .mul (getD (g .a .now) (l .i) 0)) (c .before .before .before .before .inverse .ensures .0) in
-    subst (λ (x : ℕ). Filling (quotients (g .m) (g .a .now) (g .c)) (length (g .a .now)) (g .out .now) (length (g .a .now)) (set (l .out) (l .i) x) (l .i + 1)) (sym stored)
-    (filling-turn (quotients (g .m) (g .a .now) (g .c)) (length (g .a .now)) (g .out .now) _ (l .out) (l .i) (c .before .before .loop-test .taken) (l .inv))
+    filling-turn (l .inv) (c .before .before .loop-test .taken)
+    (c .product .ensures .0 ∙ ap (gf (g .m) .mul (getD (g .a .now) (l .i) 0)) (c .before .before .before .before .inverse .ensures .0))
 
 same-length : tie.Need-same-length Inv-loop μ-loop
-same-length c =
-    let l = c .before .loop in
-    let g = c .before .before .before .before .before .args in
-    filling-length (quotients (g .m) (g .a .now) (g .c)) (length (g .a .now)) (g .out .now) _ (l .out) (l .i) (l .inv)
+same-length c = filling-length (c .before .loop .inv)
 
 returns : tie.Need-returns Inv-loop μ-loop
 unfolding quotient
-returns c =
-    let l = c .before .loop in
-    let g = c .before .before .before .before .before .args in
-    filling-end (quotients (g .m) (g .a .now) (g .c)) (length (g .a .now)) (g .out .now) _ (l .out) (l .i) (c .loop-test .left) (l .inv)
+returns c = filling-end (c .before .loop .inv) (c .loop-test .left)
 
 pub divide-spec : {M : Type 1} → statement M
 divide-spec =

@@ -1,8 +1,6 @@
 -- `internal::all_different` meets its contract. The loop's invariant: no entry passed equals the first.
-use mathlib.Core.Path.{_≡_, refl, sym, ap}
-use mathlib.Core.Bool.{true, not}
-use Prim.Native.Nat.{ℕ, _-_, _≤_, _<_}
-use native.Mathlib.Nat.{not-suc-le-zero}
+use mathlib.Core.Path.{_≡_, refl, sym}
+use Prim.Native.Nat.{ℕ, _-_, _<_}
 use native.Mathlib.Omega.{arith}
 use lib.ListN.{length}
 use borrow.Author.Count.{below-more}
@@ -29,8 +27,9 @@ shared-slice-read-other c = search needs
 
 returns : tie.Need-returns Inv-loop μ-loop
 returns c =
+    let h = c .before .before .before .before .before .args .h .now in
     let l = c .before .before .before .before .loop in
-    sym (first-twice (c .before .before .before .before .before .args .h .now) (l .i) (l .inv .1) (c .before .before .before .loop-test .taken) (c .if1 .taken))
+    sym (first-twice h (l .i) (l .inv .1) (c .before .before .before .loop-test .taken) (c .if1 .taken))
 
 add-i : tie.Need-add-i Inv-loop μ-loop
 add-i c = search needs

@@ -23,7 +23,7 @@ signature-fault-requires : tie.Need-signature-fault-requires
 signature-fault-requires c κs =
     let d = c .before .before in
     let a = d .before .before .before .args in
-    let S = shaped (a .buffers) (a .m) (a .n) (a .t) (a .omega) (a .h .now) (sym (d .shape-fault .ensures) ∙ c .before .if1 .left) in
+    let S = shaped (a .buffers) (a .m) (a .n) (a .omega) (a .h .now) (sym (d .shape-fault .ensures) ∙ c .before .if1 .left) in
     (S .m-width, S .h-elements, S .h-power, omega (arith, S .h-short))
 
 same-length : tie.Need-same-length
@@ -65,7 +65,7 @@ returns-4 c =
     let shape = sym (e .shape-fault .ensures) ∙ d .before .before .if1 .left in
     let signature = sym (d .signature-fault .ensures .0) ∙ c .before .before .if2 .left in
     let few = passed (c .before .is-root-count .ensures) (c .if3 .left) in
-    let S = shaped (a .buffers) (a .m) (a .n) (a .t) (a .omega) (a .h .now) shape in (
+    let S = shaped (a .buffers) (a .m) (a .n) (a .omega) (a .h .now) shape in (
       no-number (a .buffers) (a .m) (a .n) (a .t) (a .omega) (a .h .now) shape signature few,
       λ z. d .signature-fault .ensures .1 (c .before .before .if2 .left)
           ∙ ap (λ (k : ℕ). filled (inverseAt (a .m) (a .h .now)) k (a .inverses .now)) (S .h-long),

@@ -1,9 +1,8 @@
 -- `internal::is_affine` meets its contract. The loops' invariants: the rule holds at every pair passed, in the rows before i and in row i before j.
 use mathlib.Core.Path.{_≡_, refl, sym, ap, _∙_, subst}
 use mathlib.Core.Bool.{true}
-use Prim.Native.Nat.{ℕ, _-_, _≤_, _<_}
+use Prim.Native.Nat.{ℕ, _-_, _≤_}
 use native.Mathlib.Omega.{arith}
-use lib.ListN.{length, getD}
 use borrow.Author.Needs.{needs}
 use Rattle.algebra.specs.All.{all}
 use Rattle.algebra.specs.Xor.{_⊕_}

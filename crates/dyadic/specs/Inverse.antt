@@ -1,5 +1,4 @@
--- When a dyadic matrix can have an inverse: its product with the block of Block's definition is the identity, and where the elements sum to
--- nought no product is.
+-- When a dyadic matrix has an inverse: where its elements do not sum to nought, by the block that Block defines, and where they do, not at all.
 use mathlib.Core.Path.{_≡_, refl, sym, ap, _∙_}
 use mathlib.Core.Logic.{_≢_}
 use mathlib.Core.Bool.{Bool, true, false}
