@@ -41,6 +41,21 @@ int32_t zov_check(uint32_t m, uint32_t n, uint32_t t, uint32_t omega, const zov_
 int32_t zov_same(uint32_t m1, uint32_t n1, uint32_t t1, uint32_t omega1, const zov_elem *h1, size_t h1_length,
                  uint32_t m2, uint32_t n2, uint32_t t2, uint32_t omega2, const zov_elem *h2, size_t h2_length);
 
+/* Words of n bytes, each 0 or 1, of the code with these parameters. Refused by 1 to 7 for the code and the lengths of
+ * the word (n) and of a syndrome (t), then by 2 for a message of another length than k, then by 8 (a byte that is
+ * neither 0 nor 1).
+ *
+ * zov_roles writes 1 for each message column and 0 for each check column; the value is k, the number of the former. The
+ * value of the others is 0. */
+int32_t zov_roles(uint32_t m, uint32_t n, uint32_t t, uint32_t omega, const zov_elem *h, size_t h_length,
+                  uint8_t *roles, size_t roles_length);
+int32_t zov_syndrome(uint32_t m, uint32_t n, uint32_t t, uint32_t omega, const zov_elem *h, size_t h_length,
+                     const uint8_t *word, size_t word_length, zov_elem *out, size_t out_length);
+int32_t zov_encode(uint32_t m, uint32_t n, uint32_t t, uint32_t omega, const zov_elem *h, size_t h_length,
+                   const uint8_t *message, size_t message_length, uint8_t *word, size_t word_length);
+int32_t zov_message(uint32_t m, uint32_t n, uint32_t t, uint32_t omega, const zov_elem *h, size_t h_length,
+                    const uint8_t *word, size_t word_length, uint8_t *message, size_t message_length);
+
 #ifdef __cplusplus
 }
 #endif

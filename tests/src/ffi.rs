@@ -146,3 +146,121 @@ pub mod params {
         })
     }
 }
+
+/// Roles, syndrome, encoding and taking the message out.
+pub mod words {
+    use super::answer;
+    use crate::Elem;
+
+    extern "C" {
+        fn zov_roles(
+            m: u32,
+            n: u32,
+            t: u32,
+            omega: u32,
+            h: *const Elem,
+            h_length: usize,
+            roles: *mut u8,
+            roles_length: usize,
+        ) -> i32;
+        fn zov_syndrome(
+            m: u32,
+            n: u32,
+            t: u32,
+            omega: u32,
+            h: *const Elem,
+            h_length: usize,
+            word: *const u8,
+            word_length: usize,
+            out: *mut Elem,
+            out_length: usize,
+        ) -> i32;
+        fn zov_encode(
+            m: u32,
+            n: u32,
+            t: u32,
+            omega: u32,
+            h: *const Elem,
+            h_length: usize,
+            message: *const u8,
+            message_length: usize,
+            word: *mut u8,
+            word_length: usize,
+        ) -> i32;
+        fn zov_message(
+            m: u32,
+            n: u32,
+            t: u32,
+            omega: u32,
+            h: *const Elem,
+            h_length: usize,
+            word: *const u8,
+            word_length: usize,
+            message: *mut u8,
+            message_length: usize,
+        ) -> i32;
+    }
+
+    pub fn roles((m, n, t, omega): (u32, u32, u32, u32), h: &[Elem], roles: &mut [u8]) -> Result<u32, u32> {
+        // SAFETY: each pointer goes with the length of its slice, and no two slices overlap.
+        answer(unsafe { zov_roles(m, n, t, omega, h.as_ptr(), h.len(), roles.as_mut_ptr(), roles.len()) })
+    }
+
+    pub fn syndrome(
+        (m, n, t, omega): (u32, u32, u32, u32),
+        h: &[Elem],
+        word: &[u8],
+        out: &mut [Elem],
+    ) -> Result<u32, u32> {
+        // SAFETY: each pointer goes with the length of its slice, and no two slices overlap.
+        answer(unsafe {
+            zov_syndrome(m, n, t, omega, h.as_ptr(), h.len(), word.as_ptr(), word.len(), out.as_mut_ptr(), out.len())
+        })
+    }
+
+    pub fn encode(
+        (m, n, t, omega): (u32, u32, u32, u32),
+        h: &[Elem],
+        message: &[u8],
+        word: &mut [u8],
+    ) -> Result<u32, u32> {
+        // SAFETY: each pointer goes with the length of its slice, and no two slices overlap.
+        answer(unsafe {
+            zov_encode(
+                m,
+                n,
+                t,
+                omega,
+                h.as_ptr(),
+                h.len(),
+                message.as_ptr(),
+                message.len(),
+                word.as_mut_ptr(),
+                word.len(),
+            )
+        })
+    }
+
+    pub fn message(
+        (m, n, t, omega): (u32, u32, u32, u32),
+        h: &[Elem],
+        word: &[u8],
+        message: &mut [u8],
+    ) -> Result<u32, u32> {
+        // SAFETY: each pointer goes with the length of its slice, and no two slices overlap.
+        answer(unsafe {
+            zov_message(
+                m,
+                n,
+                t,
+                omega,
+                h.as_ptr(),
+                h.len(),
+                word.as_ptr(),
+                word.len(),
+                message.as_mut_ptr(),
+                message.len(),
+            )
+        })
+    }
+}

@@ -8,6 +8,8 @@ use Rattle.slices.specs.declared.Outcome.{Outcome}
 use Rattle.slices.specs.declared.Outcome.the-variants.{Done, Refused}
 use Rattle.params.specs.declared.Sameness.{Sameness}
 use Rattle.params.specs.declared.Sameness.the-variants.{Same, Different, Refused as NotCompared}
+use Rattle.words.specs.declared.Counted.{Counted}
+use Rattle.words.specs.declared.Counted.the-variants.{Count, Refused as NotCounted}
 
 abbrev pub minus : ℕ → ℕ
 minus n = (2 ^ 32 - n) % 2 ^ 32
@@ -24,6 +26,10 @@ abbrev pub samenessCode : Sameness → ℕ
 samenessCode Same = 1
 samenessCode Different = 0
 samenessCode (NotCompared n) = minus n
+
+abbrev pub countedCode : Counted → ℕ
+countedCode (Count k) = k
+countedCode (NotCounted n) = minus n
 
 -- a number with the buffer that goes with it
 abbrev pub paired : ℕ → List ℕ → ℕ × List ℕ

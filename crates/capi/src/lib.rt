@@ -2,5 +2,6 @@
 // Any values may come in: the calls refuse what is out of range.
 pub mod blocks;
 pub mod codes;
+pub mod coding;
 pub mod elements;
 mod wire;

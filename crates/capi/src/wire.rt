@@ -2,8 +2,9 @@
 use field::Answer;
 use params::Sameness;
 use slices::Outcome;
+use words::Counted;
 ghost use mathlib.Core.Path.{_≡_};
-ghost use Rattle.capi.specs.Wire.{minus, elementCode, outcomeCode, samenessCode};
+ghost use Rattle.capi.specs.Wire.{minus, elementCode, outcomeCode, samenessCode, countedCode};
 
 pub fn element_code(answer: Answer) -> u32
     ensures { λ r. ⌜ r ≡ elementCode answer ⌝ }
@@ -30,6 +31,15 @@ pub fn sameness_code(sameness: Sameness) -> u32
         Sameness::Different => 0,
         Sameness::Same => 1,
         Sameness::Refused(number) => minus(number),
+    }
+}
+
+pub fn counted_code(counted: Counted) -> u32
+    ensures { λ r. ⌜ r ≡ countedCode counted ⌝ }
+{
+    match counted {
+        Counted::Count(count) => count,
+        Counted::Refused(number) => minus(number),
     }
 }
 

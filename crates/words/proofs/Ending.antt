@@ -1,0 +1,82 @@
+-- How the calls on words end: which number is due after the code's own rules, and what the buffer then holds.
+use mathlib.Core.Path.{_≡_, refl, sym, ap, ap₂, _∙_, subst}
+use mathlib.Core.Logic.{_≢_}
+use mathlib.Core.Bool.{Bool, true, false}
+use mathlib.Core.List.{List, [], _∷_, _++_}
+use Prim.Native.Nat.{ℕ, _-_, _*_, _≤_, _<_}
+use native.Mathlib.Omega.{arith}
+use native.Mathlib.Decide.{decLt}
+use lib.Dec.{eqb, ltb}
+use lib.ListN.{length, List·getD-eq-default}
+use borrow.Author.Tests.{eq-eqb, ne-eqb, ltb-true, eqb-true}
+use Rattle.algebra.specs.All.{all-is}
+use Rattle.field.specs.Rules.{Rule, _unless_, fault, unless-refused, fault-here, fault-past, fault-first, fault-rest, refuse, accept}
+use Rattle.slices.specs.Lengths.{longest}
+use Rattle.params.specs.Code.{Limits, Accepted, codeRules, code-numbered, accepted}
+use Rattle.params.specs.Answers.{codeFault}
+use Rattle.params.specs.Tests.{entryOf}
+use Rattle.words.specs.Word.{whole, isWord}
+use Rattle.words.specs.Columns.{dimension}
+use Rattle.words.specs.Table.{ParityBasis, rowWords, Room}
+use Rattle.words.specs.Answers.{messageLength, messageRules, messageFaultAfter, Ended}
+use Rattle.words.proofs.Meaning.{rank-is-rest, n-short}
+
+pub ended-refused : {k due : ℕ} (old value : List ℕ) → k ≡ due → k ≢ 0 → Ended k due old value old
+ended-refused old value e ne = record { number = e; buffer = refuse (λ k. old) value e ne }
+
+pub ended-done : {due : ℕ} (old value : List ℕ) → due ≡ 0 → Ended 0 due old value value
+ended-done old value z = record { number = sym z; buffer = accept (λ k. old) value (sym z) refl }
+
+pub fault-none-left : fault [] ≡ 0
+unfolding fault
+fault-none-left = refl
+
+-- ---- the message's length and its bits
+
+module _ (m n t ω : ℕ) (h rows leads : List ℕ) (rank : ℕ) (A : Accepted m n t ω h) (P : ParityBasis m t h (whole n) rows leads rank) where
+  abbrev k-is : dimension m t ω h (whole n) ≡ n - rank
+  k-is = rank-is-rest m n t ω h rows leads rank A P
+
+  pub wrong-length : (long : ℕ) (bits : Bool) → (long ≡ n - rank → ⊥) → messageFaultAfter m n t ω h long bits ≡ 2
+  unfolding messageFaultAfter messageRules
+  wrong-length long bits ne = fault-here 2 ((8 unless bits) ∷ []) (ne-eqb long (messageLength m n t ω h) (λ e. ne (e ∙ k-is)))
+
+  pub no-bits : (long : ℕ) (bits : Bool) → long ≡ n - rank → bits ≡ false → messageFaultAfter m n t ω h long bits ≡ 8
+  unfolding messageFaultAfter messageRules
+  no-bits long bits e b = fault-past 2 ((8 unless bits) ∷ []) (eq-eqb long (messageLength m n t ω h) (e ∙ sym k-is)) (fault-here 8 [] b)
+
+  pub message-fits : (long : ℕ) (bits : Bool) → long ≡ n - rank → bits ≡ true → messageFaultAfter m n t ω h long bits ≡ 0
+  unfolding messageFaultAfter messageRules fault
+  message-fits long bits e b = fault-past 2 ((8 unless bits) ∷ []) (eq-eqb long (messageLength m n t ω h) (e ∙ sym k-is)) (fault-past 8 [] b refl)
+
+-- ---- what a code whose rules hold is
+
+pub bits-anywhere : (w : List ℕ) → isWord w ≡ true → (j : ℕ) → entryOf w j < 2
+unfolding isWord
+bits-anywhere w t j = at (decLt j (length w))
+  where
+    at : Dec (j < length w) → entryOf w j < 2
+    at (yes l) = ltb-true (entryOf w j) 2 (all-is (length w) (λ j. ltb (entryOf w j) 2) t j l)
+    at (no nl) = subst (λ (x : ℕ). x < 2) (sym (List·getD-eq-default w 0 (omega arith))) (omega arith)
+
+module _ (buffers : Bool) (m n t ω : ℕ) (h : List ℕ) (z : codeFault buffers m n t ω h ≡ 0) where
+  pub code-is : (buffers ≡ true) × Accepted m n t ω h
+  unfolding codeFault
+  code-is = accepted buffers m n t ω h z
+
+  pub n-is : n ≡ length h
+  n-is = sym (code-is .1 .limits .h-length)
+
+  pub accepted-here : Accepted m (length h) t ω h
+  accepted-here = subst (λ (k : ℕ). Accepted m k t ω h) n-is (code-is .1)
+
+  -- rules after the code's
+  pub more-rules : (more : List Rule) → fault (codeRules buffers m n t ω h ++ more) ≡ fault more
+  unfolding codeFault
+  more-rules more = fault-rest (codeRules buffers m n t ω h) more (code-numbered buffers m n t ω h) z
+
+-- room in the arrays of the calls
+pub room : (m n t : ℕ) (h rows leads : List ℕ) → Limits m n t h → longest ≤ length leads → longest * rowWords ≤ length rows → Room n rows leads
+room m n t h rows leads L a b =
+    let s : n ≤ longest = n-short m n t h L in
+    record { short = s; rows-long = omega arith; leads-long = omega arith }

@@ -1,0 +1,53 @@
+-- `basis::reduce` meets its contract: the part of the table that it adds is the row at p.
+use mathlib.Core.Path.{sym, _∙_}
+use native.Mathlib.Omega.{arith}
+use Rattle.words.proofs.Insertion.{part-length, reduced-part}
+use borrow.Author.Needs.{needs}
+use Rattle.words.proofs.basis.reduce.Statement.{statement}
+use Rattle.words.proofs.basis.reduce.Tie as tie
+
+mul-start : tie.Need-mul-start
+mul-start c = omega arith
+
+add-end : tie.Need-add-end
+add-end c = omega arith
+
+mul-add : tie.Need-mul-add
+mul-add c = omega arith
+
+sub-add : tie.Need-sub-add
+sub-add c = omega arith
+
+part-add-start : tie.Need-part-add-start
+part-add-start c = omega arith
+
+part-add-end : tie.Need-part-add-end
+part-add-end c = omega arith
+
+add-requires : tie.Need-add-requires
+add-requires c κs =
+    let s = c .before .before .before .before in
+    s .pre .2 ∙ sym (part-length (s .args .p) (s .args .rows .now) (s .pre .1))
+
+same-length : tie.Need-same-length
+same-length c = c .before .before .add .ensures .long
+
+returns : tie.Need-returns
+returns c =
+    let s = c .before .before .before .before .before .before .before in
+    let add = c .before .before .add in
+    reduced-part (s .args .p) (s .args .rows .now) (s .args .row .now) (add .last .1 .0) (s .pre .2) (add .ensures)
+
+pub reduce-spec : {M : Type 1} → statement M
+reduce-spec =
+    tie.close
+    (tie.spec
+    mul-start
+    add-end
+    mul-add
+    sub-add
+    part-add-start
+    part-add-end
+    add-requires
+    same-length
+    returns)

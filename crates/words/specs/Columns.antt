@@ -1,0 +1,67 @@
+-- Message columns and check columns; the message of a word, and the code word that carries a message.
+use mathlib.Core.Bool.{Bool, true, false, _&&_, not, cond}
+use mathlib.Core.List.{List, [], _∷_, _++_}
+use Prim.Native.Nat.{ℕ, zero, suc, _+_, _^_}
+use lib.Dec.{eqb}
+use lib.ListN.{length}
+use Rattle.algebra.specs.All.{all, some}
+use Rattle.algebra.specs.Bits.{bitAt}
+use Rattle.algebra.specs.Sum.{sum}
+use Rattle.algebra.specs.Tabulate.{tabulate}
+use Rattle.field.specs.Gf.{gf}
+use Rattle.params.specs.Tests.{entryOf}
+use Rattle.words.specs.Word.{parityAt, held, isCodeWord}
+
+-- the places below n at which the test holds, counted
+unfoldable pub count : ℕ → (ℕ → Bool) → ℕ
+count zero p = 0
+count (suc n) p = count n p + cond (p n) 1 0
+
+-- the entries of w below n at those places, in rising order
+unfoldable pub chosen : ℕ → (ℕ → Bool) → (ℕ → ℕ) → List ℕ
+chosen zero p w = []
+chosen (suc n) p w = chosen n p w ++ cond (p n) (w n ∷ []) []
+
+-- the word of n bits whose bits are those of the number s
+unfoldable pub wordOf : ℕ → ℕ → List ℕ
+wordOf n s = tabulate n (bitAt s)
+
+-- a number below n that passes the test (0 where there is none)
+unfoldable pub found : ℕ → (ℕ → Bool) → ℕ
+found zero p = 0
+found (suc n) p = cond (p n) n (found n p)
+
+unfoldable pub sameList : List ℕ → List ℕ → Bool
+sameList a b = eqb (length a) (length b) && all (length a) (λ i. eqb (entryOf a i) (entryOf b i))
+
+-- Of a matrix with t rows: column j is the sum of the columns before it that the bits of s choose.
+-- The m × t bits of a column are those of its t entries, so columns add entry by entry.
+unfoldable pub isSumOf : ℕ → ℕ → (ℕ → ℕ → ℕ) → ℕ → ℕ → Bool
+isSumOf m t e j s = all t (λ i. eqb (sum (gf m) j (λ p. held (bitAt s p) (e i p))) (e i j))
+
+-- column j "is a sum of columns before it (the empty sum is zero)"
+unfoldable pub isSum : ℕ → ℕ → (ℕ → ℕ → ℕ) → ℕ → Bool
+isSum m t e j = some (2 ^ j) (isSumOf m t e j)
+
+module _ (m t ω : ℕ) (h cols : List ℕ) where
+  -- "Column j is a message column if it is a sum of columns before it, else a check column."
+  unfoldable pub isMessageColumn : ℕ → Bool
+  isMessageColumn = isSum m t (λ i p. parityAt m ω h i (entryOf cols p))
+
+  -- 1 for a message column, 0 for a check column
+  unfoldable pub rolesOf : List ℕ
+  rolesOf = tabulate (length cols) (λ j. cond (isMessageColumn j) 1 0)
+
+  -- "k is the count of message columns."
+  unfoldable pub dimension : ℕ
+  dimension = count (length cols) isMessageColumn
+
+  -- "Taking the message out of a word gives its bytes at the message columns."
+  unfoldable pub messageOf : List ℕ → List ℕ
+  messageOf w = chosen (length cols) isMessageColumn (entryOf w)
+
+  -- the code word that carries the message, by a search over all words
+  unfoldable pub encodingOf : List ℕ → List ℕ
+  encodingOf message =
+      wordOf (length cols)
+      (found (2 ^ length cols) (λ s. isCodeWord m ω h cols t (wordOf (length cols) s) && sameList (messageOf (wordOf (length cols) s)) message))

@@ -1,0 +1,9 @@
+pub mod Word
+pub mod Columns
+pub mod Parity
+pub mod Systematic
+pub mod Chosen
+pub mod Encoding
+pub mod Packed
+pub mod Table
+pub mod Answers
