@@ -23,7 +23,7 @@ use Rattle.words.specs.Word.{whole, held, parityAt, syndromeAt, syndrome
 use Rattle.words.specs.Columns.{count, chosen, isSum, isMessageColumn, rolesOf, dimension, messageOf, encodingOf}
 use Rattle.words.specs.Parity.{Checks, bitRow, bit-rows, parity-signature}
 use Rattle.words.specs.Systematic.{Basis, sum-is-free}
-use Rattle.words.specs.Chosen.{chosen-tests, count-tests, chosen-cong, chosen-placed, length-chosen}
+use Rattle.words.specs.Chosen.{free-count, chosen-tests, count-tests, chosen-cong, chosen-placed, length-chosen}
 use Rattle.words.proofs.Eliminating.{count-le}
 use Rattle.words.specs.Encoding.{e, e-in, IsBits, code-checks, encoding-only}
 use Rattle.words.specs.Table.{rowBit, leadAt, freeAt, Room, Form, parityBit, ParityBasis, Reaches, Completed, signatureSum}
@@ -66,20 +66,7 @@ module _ (m n t : ℕ) (h : List ℕ) (L : Limits m n t h) where
       inside : j < n
       inside = subst (λ (k : ℕ). j < k) (length-whole n) lj
 
--- ---- counting the places without a row
-
-free-count : (n : ℕ) (f : ℕ → Bool) → count n (λ p. not (f p)) ≡ n - count n f
-unfolding count
-free-count n f =
-    let both : count n (λ p. not (f p)) + count n f ≡ n = together n in omega arith
-  where
-    one : (b : Bool) (x y : ℕ) → x + cond (not b) 1 0 + (y + cond b 1 0) ≡ suc (x + y)
-    one true x y = omega arith
-    one false x y = omega arith
-
-    together : (n : ℕ) → count n (λ p. not (f p)) + count n f ≡ n
-    together zero = refl
-    together (suc n) = one (f n) (count n (λ p. not (f p))) (count n f) ∙ ap suc (together n)
+-- ---- the number of rows
 
 pub rank-le : (m n t : ℕ) (h rows leads : List ℕ) (rank : ℕ) → ParityBasis m t h (whole n) rows leads rank → rank ≤ n
 rank-le m n t h rows leads rank P =

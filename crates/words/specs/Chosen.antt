@@ -1,8 +1,8 @@
 -- Laws of choosing the entries of a word at some places, and of searching.
 use mathlib.Core.Path.{_≡_, refl, sym, ap, ap₂, _∙_, subst}
-use mathlib.Core.Bool.{Bool, true, false, cond, _&&_, false≢true}
+use mathlib.Core.Bool.{Bool, true, false, cond, not, _&&_, false≢true}
 use mathlib.Core.List.{List, [], _∷_, _++_, append-nil}
-use Prim.Native.Nat.{ℕ, zero, suc, _+_, _<_, _≤_}
+use Prim.Native.Nat.{ℕ, zero, suc, _+_, _-_, _<_, _≤_}
 use native.Mathlib.Nat.{not-suc-le-zero, add-zero}
 use native.Mathlib.Numerals.{add-one}
 use native.Mathlib.Omega.{arith}
@@ -74,6 +74,20 @@ pub count-tests : (n : ℕ) (p q : ℕ → Bool) → ((j : ℕ) → j < n → p 
 unfolding count
 count-tests zero p q h = refl
 count-tests (suc n) p q h = ap₂ (λ (x : ℕ) (b : Bool). x + cond b 1 0) (count-tests n p q (λ j l. h j (omega arith))) (h n (omega arith))
+
+-- the places that do not pass are the rest
+pub free-count : (n : ℕ) (f : ℕ → Bool) → count n (λ p. not (f p)) ≡ n - count n f
+unfolding count
+free-count n f =
+    let both : count n (λ p. not (f p)) + count n f ≡ n = together n in omega arith
+  where
+    one : (b : Bool) (x y : ℕ) → x + cond (not b) 1 0 + (y + cond b 1 0) ≡ suc (x + y)
+    one true x y = omega arith
+    one false x y = omega arith
+
+    together : (n : ℕ) → count n (λ p. not (f p)) + count n f ≡ n
+    together zero = refl
+    together (suc n) = one (f n) (count n (λ p. not (f p))) (count n f) ∙ ap suc (together n)
 
 -- a search finds what is there
 pub found-passes : (n : ℕ) (p : ℕ → Bool) (i : ℕ) → i < n → p i ≡ true → p (found n p) ≡ true

@@ -4,6 +4,8 @@ pub mod Parity
 pub mod Systematic
 pub mod Chosen
 pub mod Encoding
+pub mod Offset
+pub mod Zero
 pub mod Packed
 pub mod Table
 pub mod Answers

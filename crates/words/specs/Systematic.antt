@@ -17,7 +17,8 @@ use Rattle.algebra.specs.Sum.{sum, sum-cong, sum-nought, sum-split}
 use Rattle.algebra.specs.Xor.{_⊕_, ⊕-self, ⊕-zero, zero-⊕, ⊕-eq}
 use Rattle.field.specs.Gf.{Width, gf, gf-laws}
 use Rattle.words.specs.Word.{held}
-use Rattle.words.specs.Columns.{isSumOf, isSum}
+use Rattle.words.specs.Columns.{count, isSumOf, isSum}
+use Rattle.words.specs.Chosen.{count-tests, free-count}
 use Rattle.words.specs.Parity.{Checks}
 
 module _ (m : ℕ) (W : Width m) (n t : ℕ) (e : ℕ → ℕ → ℕ) (e-in : (i j : ℕ) → i < t → j < n → e i j < 2 ^ m) where
@@ -99,3 +100,7 @@ module _ (m : ℕ) (W : Width m) (n t : ℕ) (e : ℕ → ℕ → ℕ) (e-in : (
         decided : (b : Bool) → leads p ≡ b → isSum m t e p ≡ not (leads p)
         decided true d = refuted (isSum m t e p) (led-is-no-sum p l d) ∙ ap not (sym d)
         decided false d = free-is-sum p l d ∙ ap not (sym d)
+
+    -- k = n − rank: the message columns are those without a row
+    pub message-count : count n (isSum m t e) ≡ n - count n leads
+    message-count = count-tests n (isSum m t e) (λ p. not (leads p)) sum-is-free ∙ free-count n leads
