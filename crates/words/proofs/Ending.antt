@@ -11,6 +11,7 @@ use lib.ListN.{length, List·getD-eq-default}
 use borrow.Author.Tests.{eq-eqb, ne-eqb, ltb-true, eqb-true}
 use Rattle.algebra.specs.All.{all-is}
 use Rattle.field.specs.Rules.{Rule, _unless_, fault, unless-refused, fault-here, fault-past, fault-first, fault-rest, refuse, accept}
+use Rattle.slices.specs.declared.Outcome.the-variants.{Done, Refused}
 use Rattle.slices.specs.Lengths.{longest}
 use Rattle.params.specs.Code.{Limits, Accepted, codeRules, code-numbered, accepted}
 use Rattle.params.specs.Answers.{codeFault}
@@ -80,3 +81,31 @@ pub room : (m n t : ℕ) (h rows leads : List ℕ) → Limits m n t h → longes
 room m n t h rows leads L a b =
     let s : n ≤ longest = n-short m n t h L in
     record { short = s; rows-long = omega arith; leads-long = omega arith }
+
+-- ---- the ends of the calls that have a message: the code's number, the message's, or the value
+
+module _ (B : Bool) (m n t ω : ℕ) (h : List ℕ) (long : ℕ) (bits : Bool) (old : List ℕ) where
+  abbrev due : ℕ
+  due = fault (codeRules B m n t ω h ++ messageRules m n t ω h long bits)
+
+  pub code-refuses : {k : ℕ} (value : List ℕ) → k ≡ codeFault B m n t ω h → k ≢ 0
+      → (Refused k ≡ unless-refused due Refused Done) × (old ≡ unless-refused due (λ i. old) value)
+  unfolding codeFault
+  code-refuses value e ne =
+      let f = e ∙ sym (fault-first (codeRules B m n t ω h) (messageRules m n t ω h long bits) (λ z. ne (e ∙ z))) in
+      (refuse Refused Done f ne, refuse (λ i. old) value f ne)
+
+  module _ (z : codeFault B m n t ω h ≡ 0) {k : ℕ} (value : ℕ → List ℕ) (new : List ℕ)
+      (E : Ended k (messageFaultAfter m (length h) t ω h long bits) old (value (length h)) new) where
+    -- the inner call's end, at n and with the code's rules before the message's
+    here : Ended k due old (value n) new
+    unfolding messageFaultAfter
+    here =
+        let at-n = subst (λ (i : ℕ). Ended k (messageFaultAfter m i t ω h long bits) old (value i) new) (sym (n-is B m n t ω h z)) E in
+        subst (λ (i : ℕ). Ended k i old (value n) new) (sym (more-rules B m n t ω h z (messageRules m n t ω h long bits))) at-n
+
+    pub message-refuses : k ≢ 0 → (Refused k ≡ unless-refused due Refused Done) × (new ≡ unless-refused due (λ i. old) (value n))
+    message-refuses ne = (refuse Refused Done (here .number) ne, here .buffer)
+
+    pub message-done : k ≡ 0 → (Done ≡ unless-refused due Refused Done) × (new ≡ unless-refused due (λ i. old) (value n))
+    message-done q = (accept Refused Done (here .number) q, here .buffer)
