@@ -1,16 +1,17 @@
-// The tests of a code's parameters, for every call that is handed some: the number that refuses them, or 0.
+// The tests of a code's parameters, for every call that is handed some: the number that refuses them, or 0. And the roots and the support of a
+// code that passes them.
 use field::Elem;
 use slices::LONGEST;
 ghost use mathlib.Core.Path.{_≡_};
 ghost use mathlib.Core.Bool.{true};
-ghost use Prim.Native.Nat.{_≤_};
+ghost use Prim.Native.Nat.{_≤_, _<_};
 ghost use lib.ListN.{length};
-ghost use Rattle.algebra.specs.Tabulate.{filled};
+ghost use Rattle.algebra.specs.Tabulate.{tabulate, filled};
 ghost use Rattle.field.specs.Gf.{Width};
 ghost use Rattle.field.specs.Rules.{fault};
 ghost use Rattle.slices.specs.Lengths.{longest, isPower};
 ghost use Rattle.slices.specs.Elements.{allElements};
-ghost use Rattle.params.specs.Tests.{entryOf, inverseAt, noZero, affine, linear, distinct, EqualToFirst};
+ghost use Rattle.params.specs.Tests.{entryOf, added, inverseAt, noZero, affine, linear, distinct, EqualToFirst};
 ghost use Rattle.params.specs.Code.{isLength, isRootCount, shapeRules, signatureRules};
 ghost use Rattle.params.specs.Answers.{codeFault};
 
@@ -163,4 +164,27 @@ fn all_different(h: &[Elem]) -> bool
         }
     }
     true
+}
+
+// The roots and the support that the inverses and the offset give, as many as the buffers hold.
+pub fn store(inverses: &[Elem], offset: Elem, roots: &mut [Elem], support: &mut [Elem])
+    requires { ⌜ (0 < length (now inverses)) × (length (now roots) ≤ length (now inverses)) × (length (now support) ≤ length (now inverses)) ⌝ }
+    ensures { λ _. ⌜ now (roots .exit) ≡ tabulate (length (now (roots .entry))) (added (now (inverses .entry)) offset) ⌝ }
+    ensures { λ _.
+        ⌜ now (support .exit)
+        ≡ tabulate (length (now (support .entry))) (added (now (inverses .entry)) (added (now (inverses .entry)) offset 0)) ⌝ }
+{
+    let first = inverses[0];
+    add_each(inverses, offset, roots);
+    add_each(inverses, first ^ offset, support);
+}
+
+// The entries of a with c added to each, as many as `out` holds.
+fn add_each(a: &[Elem], c: Elem, out: &mut [Elem])
+    requires { ⌜ length (now out) ≤ length (now a) ⌝ }
+    ensures { λ _. ⌜ now (out .exit) ≡ tabulate (length (now (out .entry))) (added (now (a .entry)) c) ⌝ }
+{
+    for i in 0..out.len() {
+        out[i] = a[i] ^ c;
+    }
 }

@@ -7,10 +7,6 @@ use field::Elem;
 use slices::LONGEST;
 use slices::Outcome;
 ghost use mathlib.Core.Path.{_≡_};
-ghost use Prim.Native.Nat.{_≤_, _<_};
-ghost use lib.ListN.{length};
-ghost use Rattle.algebra.specs.Tabulate.{tabulate};
-ghost use Rattle.params.specs.Tests.{added};
 ghost use Rattle.params.specs.Same.{sameEntries};
 ghost use Rattle.params.specs.Answers.{checkAnswer, rootsAfter, supportAfter, lowest, sameAnswer};
 
@@ -41,7 +37,7 @@ pub fn check(
     if number != 0 {
         return Outcome::Refused(number);
     }
-    store(&inverses, omega as Elem, roots, support);
+    internal::store(&inverses, omega as Elem, roots, support);
     Outcome::Done
 }
 
@@ -71,29 +67,6 @@ pub fn same(
         return Sameness::Same;
     }
     Sameness::Different
-}
-
-// The roots and the support that the inverses and the offset give, as many as the buffers hold.
-fn store(inverses: &[Elem], offset: Elem, roots: &mut [Elem], support: &mut [Elem])
-    requires { ⌜ (0 < length (now inverses)) × (length (now roots) ≤ length (now inverses)) × (length (now support) ≤ length (now inverses)) ⌝ }
-    ensures { λ _. ⌜ now (roots .exit) ≡ tabulate (length (now (roots .entry))) (added (now (inverses .entry)) offset) ⌝ }
-    ensures { λ _.
-        ⌜ now (support .exit)
-        ≡ tabulate (length (now (support .entry))) (added (now (inverses .entry)) (added (now (inverses .entry)) offset 0)) ⌝ }
-{
-    let first = inverses[0];
-    add_each(inverses, offset, roots);
-    add_each(inverses, first ^ offset, support);
-}
-
-// The entries of a with c added to each, as many as `out` holds.
-fn add_each(a: &[Elem], c: Elem, out: &mut [Elem])
-    requires { ⌜ length (now out) ≤ length (now a) ⌝ }
-    ensures { λ _. ⌜ now (out .exit) ≡ tabulate (length (now (out .entry))) (added (now (a .entry)) c) ⌝ }
-{
-    for i in 0..out.len() {
-        out[i] = a[i] ^ c;
-    }
 }
 
 // The lower of two numbers of 01's table, where 0 is none.

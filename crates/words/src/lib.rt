@@ -1,8 +1,9 @@
 // Words of an accepted code: syndrome, message and check columns, encoding, and the message of a word.
 //
-// The calls of this file take any input, for the whole code. What they are made of works for any list of columns and stands in the modules below:
+// The calls of this file take any input, for the whole code. What they are made of stands in the modules below and works for any list of columns:
 // packed rows, an echelon basis of the parity rows, and what the basis says of words.
 pub mod basis;
+pub mod internal;
 pub mod packed;
 pub mod systematic;
 
@@ -11,14 +12,13 @@ use slices::LONGEST;
 use slices::Outcome;
 ghost use mathlib.Core.Path.{_≡_};
 ghost use mathlib.Core.Bool.{true};
-ghost use Prim.Native.Nat.{ℕ, _≤_};
+ghost use Prim.Native.Nat.{ℕ};
 ghost use lib.ListN.{length};
 ghost use Rattle.algebra.specs.Tabulate.{tabulate};
-ghost use Rattle.slices.specs.Lengths.{longest};
 ghost use Rattle.params.specs.Code.{Limits, Accepted};
 ghost use Rattle.words.specs.Word.{whole, isWord};
 ghost use Rattle.words.specs.Columns.{rolesOf, messageOf, encodingOf};
-ghost use Rattle.words.specs.Table.{Room, ParityBasis, signatureSum};
+ghost use Rattle.words.specs.Table.{signatureSum};
 ghost use Rattle.words.specs.Answers.{messageLength, messageFaultAfter, Ended, rolesAnswer, rolesAfter, syndromeAnswer, syndromeAfter, encodeAnswer, encodeAfter, messageAnswer, messageAfter};
 
 // The number of a column of the code.
@@ -59,7 +59,7 @@ pub fn syndrome(
     if number != 0 {
         return Outcome::Refused(number);
     }
-    if !is_word(word) {
+    if !internal::is_word(word) {
         return Outcome::Refused(8);
     }
     accepted_syndrome(m, h, word, out);
@@ -122,7 +122,7 @@ fn accepted_roles(m: u32, t: usize, h: &[Elem], out: &mut [u8]) -> u32
 {
     let mut rows: [u64; LONGEST * packed::ROW] = [0; LONGEST * packed::ROW];
     let mut leads: [u8; LONGEST] = [0; LONGEST];
-    let rank = whole_basis(m, t, h, &mut rows, &mut leads);
+    let rank = internal::whole_basis(m, t, h, &mut rows, &mut leads);
     systematic::roles(&leads, out);
     (h.len() - rank) as u32
 }
@@ -134,11 +134,11 @@ fn accepted_encode(m: u32, t: usize, h: &[Elem], message: &[u8], word: &mut [u8]
 {
     let mut rows: [u64; LONGEST * packed::ROW] = [0; LONGEST * packed::ROW];
     let mut leads: [u8; LONGEST] = [0; LONGEST];
-    let rank = whole_basis(m, t, h, &mut rows, &mut leads);
+    let rank = internal::whole_basis(m, t, h, &mut rows, &mut leads);
     if message.len() != h.len() - rank {
         return 2;
     }
-    if !is_word(message) {
+    if !internal::is_word(message) {
         return 8;
     }
     systematic::carry(message, &rows, &leads, word);
@@ -152,11 +152,11 @@ fn accepted_message(m: u32, t: usize, h: &[Elem], word: &[u8], message: &mut [u8
 {
     let mut rows: [u64; LONGEST * packed::ROW] = [0; LONGEST * packed::ROW];
     let mut leads: [u8; LONGEST] = [0; LONGEST];
-    let rank = whole_basis(m, t, h, &mut rows, &mut leads);
+    let rank = internal::whole_basis(m, t, h, &mut rows, &mut leads);
     if message.len() != h.len() - rank {
         return 2;
     }
-    if !is_word(word) {
+    if !internal::is_word(word) {
         return 8;
     }
     systematic::take_out(word, &leads, message);
@@ -169,39 +169,6 @@ fn accepted_syndrome(m: u32, h: &[Elem], word: &[u8], out: &mut [Elem])
 {
     let mut columns: [Column; LONGEST] = [0; LONGEST];
     let n = h.len();
-    number_columns(&mut columns);
+    internal::number_columns(&mut columns);
     systematic::syndrome(m, h, &columns[..n], word, out);
-}
-
-// The basis of all columns of an accepted code, and the number of its rows.
-fn whole_basis(m: u32, t: usize, h: &[Elem], rows: &mut [u64], leads: &mut [u8]) -> usize
-    requires { ⌜ Limits m (length (now h)) t (now h) × Room (length (now h)) (now rows) (now leads) ⌝ }
-    ensures { λ r. ⌜ ParityBasis m t (now (h .entry)) (whole (length (now (h .entry)))) (now (rows .exit)) (now (leads .exit)) r ⌝ }
-{
-    let mut columns: [Column; LONGEST] = [0; LONGEST];
-    let n = h.len();
-    number_columns(&mut columns);
-    basis::parity_basis(m, t, h, &columns[..n], rows, leads)
-}
-
-// Place j is column j.
-fn number_columns(columns: &mut [Column])
-    requires { ⌜ length (now columns) ≤ longest ⌝ }
-    ensures { λ _. ⌜ now (columns .exit) ≡ whole (length (now (columns .entry))) ⌝ }
-{
-    for j in 0..columns.len() {
-        columns[j] = j as Column;
-    }
-}
-
-// Whether every entry is 0 or 1.
-fn is_word(word: &[u8]) -> bool
-    ensures { λ r. ⌜ r ≡ isWord (now (word .entry)) ⌝ }
-{
-    for j in 0..word.len() {
-        if 1 < word[j] {
-            return false;
-        }
-    }
-    true
 }

@@ -1,4 +1,4 @@
--- `whole_basis` meets its contract: the columns that it numbers are those of the whole code.
+-- `internal::whole_basis` meets its contract: the columns that it numbers are those of the whole code.
 use mathlib.Core.Path.{_≡_, sym, ap, _∙_, subst}
 use mathlib.Core.List.{List}
 use Prim.Native.Nat.{ℕ, _≤_}
@@ -11,8 +11,8 @@ use Rattle.words.specs.Word.{whole}
 use Rattle.words.specs.Table.{Room, Reaches, ParityBasis}
 use Rattle.words.proofs.Meaning.{length-whole, take-whole, n-short, t-short, reaches}
 use borrow.Author.Needs.{needs}
-use Rattle.words.proofs.whole_basis.Statement.{statement}
-use Rattle.words.proofs.whole_basis.Tie as tie
+use Rattle.words.proofs.internal.whole_basis.Statement.{statement}
+use Rattle.words.proofs.internal.whole_basis.Tie as tie
 
 slice-aggregate-number-columns : tie.Need-slice-aggregate-number-columns
 slice-aggregate-number-columns c = search needs

@@ -1,8 +1,8 @@
--- `store` meets its contract.
+-- `internal::store` meets its contract.
 use borrow.Author.Needs.{needs}
 use Rattle.algebra.specs.Xor.{_⊕_}
-use Rattle.params.proofs.store.Statement.{statement}
-use Rattle.params.proofs.store.Tie as tie
+use Rattle.params.proofs.internal.store.Statement.{statement}
+use Rattle.params.proofs.internal.store.Tie as tie
 
 shared-slice-read-first : tie.Need-shared-slice-read-first
 shared-slice-read-first c = search needs

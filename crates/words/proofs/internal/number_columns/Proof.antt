@@ -1,4 +1,4 @@
--- `number_columns` meets its contract, place by place.
+-- `internal::number_columns` meets its contract, place by place.
 use mathlib.Core.Path.{_≡_, refl}
 use Prim.Native.Nat.{_-_, _≤_}
 use native.Mathlib.Omega.{arith}
@@ -7,8 +7,8 @@ use Rattle.algebra.specs.Tabulate.{Filling, filling-start, filling-index, filli
 use Rattle.slices.specs.Lengths.{longest}
 use Rattle.words.specs.Word.{whole}
 use borrow.Author.Needs.{needs}
-use Rattle.words.proofs.number_columns.Statement.{statement}
-use Rattle.words.proofs.number_columns.Tie as tie
+use Rattle.words.proofs.internal.number_columns.Statement.{statement}
+use Rattle.words.proofs.internal.number_columns.Tie as tie
 
 abbrev Inv-loop : tie.InvT-loop
 Inv-loop columns₀ j₀ j-end columns j = (length columns₀ ≤ longest) × (j-end ≡ length columns₀) × Filling (λ k. k) (length columns₀) columns₀ columns j

@@ -1,4 +1,4 @@
--- `is_word` meets its contract. The loop's invariant: every entry passed is a bit.
+-- `internal::is_word` meets its contract. The loop's invariant: every entry passed is a bit.
 use mathlib.Core.Path.{_≡_, refl, sym}
 use mathlib.Core.Bool.{true}
 use Prim.Native.Nat.{ℕ, _-_, _≤_, _<_}
@@ -12,8 +12,8 @@ use Rattle.algebra.specs.All.{all-true, all-false}
 use Rattle.params.specs.Tests.{entryOf}
 use Rattle.words.specs.Word.{isWord}
 use borrow.Author.Needs.{needs}
-use Rattle.words.proofs.is_word.Statement.{statement}
-use Rattle.words.proofs.is_word.Tie as tie
+use Rattle.words.proofs.internal.is_word.Statement.{statement}
+use Rattle.words.proofs.internal.is_word.Tie as tie
 
 abbrev Inv-loop : tie.InvT-loop
 Inv-loop word j₀ j-end j = (j-end ≡ length word) × (j ≤ length word) × ((k : ℕ) → k < j → ltb (entryOf word k) 2 ≡ true)

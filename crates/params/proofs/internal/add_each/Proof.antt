@@ -1,4 +1,4 @@
--- `add_each` meets its contract. The loop's invariant: what is passed is stored, and the rest is as it was.
+-- `internal::add_each` meets its contract. The loop's invariant: what is passed is stored, and the rest is as it was.
 use mathlib.Core.Path.{_≡_, refl}
 use Prim.Native.Nat.{_-_}
 use native.Mathlib.Omega.{arith}
@@ -7,8 +7,8 @@ use borrow.Author.Needs.{needs}
 use Rattle.algebra.specs.Xor.{_⊕_}
 use Rattle.algebra.specs.Tabulate.{Filling, filling-start, filling-index, filling-turn, filling-length, filling-end}
 use Rattle.params.specs.Tests.{added}
-use Rattle.params.proofs.add_each.Statement.{statement}
-use Rattle.params.proofs.add_each.Tie as tie
+use Rattle.params.proofs.internal.add_each.Statement.{statement}
+use Rattle.params.proofs.internal.add_each.Tie as tie
 
 abbrev Inv-loop : tie.InvT-loop
 Inv-loop a x out₀ i₀ i-end out i = (i-end ≡ length out₀) × Filling (added a x) (length out₀) out₀ out i

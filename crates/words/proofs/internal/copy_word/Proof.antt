@@ -1,0 +1,55 @@
+-- `internal::copy_word` meets its contract, place by place.
+use mathlib.Core.Path.{_≡_, refl, _∙_}
+use Prim.Native.Nat.{_-_}
+use native.Mathlib.Omega.{arith}
+use lib.ListN.{length}
+use Rattle.algebra.specs.Tabulate.{tabulate-getD, Filling, filling-start, filling-index, filling-turn, filling-length, filling-end}
+use Rattle.params.specs.Tests.{entryOf}
+use borrow.Author.Needs.{needs}
+use Rattle.words.proofs.internal.copy_word.Statement.{statement}
+use Rattle.words.proofs.internal.copy_word.Tie as tie
+
+abbrev Inv-loop : tie.InvT-loop
+Inv-loop from to₀ j₀ j-end to j = (j-end ≡ length from) × Filling (entryOf from) (length from) to₀ to j
+
+abbrev μ-loop : tie.MeasureT-loop
+μ-loop from to₀ j₀ j-end to j = length from - j
+
+loop-holds : tie.Need-loop-holds Inv-loop μ-loop
+loop-holds c = (refl, filling-start (entryOf (c .args .from .now)) (length (c .args .from .now)) (c .args .to .now) (c .pre))
+
+shared-slice-read-to : tie.Need-shared-slice-read-to Inv-loop μ-loop
+shared-slice-read-to c = search needs
+
+slice-write-to : tie.Need-slice-write-to Inv-loop μ-loop
+slice-write-to c = filling-index (c .before .before .loop .inv .1) (omega arith)
+
+add-j : tie.Need-add-j Inv-loop μ-loop
+add-j c = search needs
+
+loop-less : tie.Need-loop-less Inv-loop μ-loop
+loop-less c = search needs
+
+loop-again : tie.Need-loop-again Inv-loop μ-loop
+loop-again c = (refl, filling-turn (c .before .before .loop .inv .1) (omega arith) refl)
+
+same-length : tie.Need-same-length Inv-loop μ-loop
+same-length c = filling-length (c .before .loop .inv .1)
+
+returns : tie.Need-returns Inv-loop μ-loop
+returns c = filling-end (c .before .loop .inv .1) (omega arith) ∙ tabulate-getD (c .before .before .args .from .now) 0
+
+pub copy-word-spec : {M : Type 1} → statement M
+copy-word-spec =
+    tie.close
+    (tie.spec
+    Inv-loop
+    μ-loop
+    loop-holds
+    shared-slice-read-to
+    slice-write-to
+    add-j
+    loop-less
+    loop-again
+    same-length
+    returns)
