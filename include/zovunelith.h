@@ -56,6 +56,11 @@ int32_t zov_encode(uint32_t m, uint32_t n, uint32_t t, uint32_t omega, const zov
 int32_t zov_message(uint32_t m, uint32_t n, uint32_t t, uint32_t omega, const zov_elem *h, size_t h_length,
                     const uint8_t *word, size_t word_length, uint8_t *message, size_t message_length);
 
+/* The code word that differs from the word received in at most t places, n bytes, into `repaired`; the value is the
+ * number of those places. Refused by 1 to 7, 8, then 10 (no code word is that near). */
+int32_t zov_repair(uint32_t m, uint32_t n, uint32_t t, uint32_t omega, const zov_elem *h, size_t h_length,
+                   const uint8_t *received, size_t received_length, uint8_t *repaired, size_t repaired_length);
+
 #ifdef __cplusplus
 }
 #endif

@@ -264,3 +264,47 @@ pub mod words {
         })
     }
 }
+
+/// Repair.
+pub mod repair {
+    use super::answer;
+    use crate::Elem;
+
+    extern "C" {
+        fn zov_repair(
+            m: u32,
+            n: u32,
+            t: u32,
+            omega: u32,
+            h: *const Elem,
+            h_length: usize,
+            received: *const u8,
+            received_length: usize,
+            repaired: *mut u8,
+            repaired_length: usize,
+        ) -> i32;
+    }
+
+    pub fn repair(
+        (m, n, t, omega): (u32, u32, u32, u32),
+        h: &[Elem],
+        received: &[u8],
+        repaired: &mut [u8],
+    ) -> Result<u32, u32> {
+        // SAFETY: each pointer goes with the length of its slice, and no two slices overlap.
+        answer(unsafe {
+            zov_repair(
+                m,
+                n,
+                t,
+                omega,
+                h.as_ptr(),
+                h.len(),
+                received.as_ptr(),
+                received.len(),
+                repaired.as_mut_ptr(),
+                repaired.len(),
+            )
+        })
+    }
+}

@@ -8,3 +8,4 @@ pub mod Splice
 pub mod All
 pub mod Echelon
 pub mod Elimination
+pub mod Locator

@@ -10,6 +10,8 @@ use Rattle.params.specs.declared.Sameness.{Sameness}
 use Rattle.params.specs.declared.Sameness.the-variants.{Same, Different, Refused as NotCompared}
 use Rattle.words.specs.declared.Counted.{Counted}
 use Rattle.words.specs.declared.Counted.the-variants.{Count, Refused as NotCounted}
+use Rattle.repair.specs.declared.Recovery.{Recovery}
+use Rattle.repair.specs.declared.Recovery.the-variants.{Repaired, Refused as NotRepaired}
 
 abbrev pub minus : ℕ → ℕ
 minus n = (2 ^ 32 - n) % 2 ^ 32
@@ -30,6 +32,10 @@ samenessCode (NotCompared n) = minus n
 abbrev pub countedCode : Counted → ℕ
 countedCode (Count k) = k
 countedCode (NotCounted n) = minus n
+
+abbrev pub recoveryCode : Recovery → ℕ
+recoveryCode (Repaired count) = count
+recoveryCode (NotRepaired n) = minus n
 
 -- a number with the buffer that goes with it
 abbrev pub paired : ℕ → List ℕ → ℕ × List ℕ

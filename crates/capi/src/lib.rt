@@ -4,4 +4,5 @@ pub mod blocks;
 pub mod codes;
 pub mod coding;
 pub mod elements;
+pub mod repairing;
 mod wire;

@@ -1,10 +1,11 @@
 // Answers as numbers, since no enum crosses into C.
 use field::Answer;
 use params::Sameness;
+use repair::Recovery;
 use slices::Outcome;
 use words::Counted;
 ghost use mathlib.Core.Path.{_≡_};
-ghost use Rattle.capi.specs.Wire.{minus, elementCode, outcomeCode, samenessCode, countedCode};
+ghost use Rattle.capi.specs.Wire.{minus, elementCode, outcomeCode, samenessCode, countedCode, recoveryCode};
 
 pub fn element_code(answer: Answer) -> u32
     ensures { λ r. ⌜ r ≡ elementCode answer ⌝ }
@@ -40,6 +41,15 @@ pub fn counted_code(counted: Counted) -> u32
     match counted {
         Counted::Count(count) => count,
         Counted::Refused(number) => minus(number),
+    }
+}
+
+pub fn recovery_code(recovery: Recovery) -> u32
+    ensures { λ r. ⌜ r ≡ recoveryCode recovery ⌝ }
+{
+    match recovery {
+        Recovery::Repaired(count) => count,
+        Recovery::Refused(number) => minus(number),
     }
 }
 

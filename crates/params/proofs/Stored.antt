@@ -40,10 +40,11 @@ module _ (m n t ω : ℕ) (h roots support : List ℕ) where
         fits = element-fits m (L .width) ω (A .ω-in);
       }
 
-module _ (m n ω : ℕ) (h l old out : List ℕ) (stored : l ≡ filled (inverseAt m h) n old) (long : length out ≡ n) where
-  inverse-is : (i : ℕ) → i < n → entryOf l i ≡ inverseAt m h i
-  inverse-is i li = ap (λ (x : List ℕ). entryOf x i) stored ∙ getD-stored (inverseAt m h) n old i li
+-- the first n of l are the inverses
+pub inverses-stored : (m n : ℕ) (h l old : List ℕ) → l ≡ filled (inverseAt m h) n old → (i : ℕ) → i < n → entryOf l i ≡ inverseAt m h i
+inverses-stored m n h l old stored i li = ap (λ (x : List ℕ). entryOf x i) stored ∙ getD-stored (inverseAt m h) n old i li
 
+module _ (m n ω : ℕ) (h l out : List ℕ) (inverse-is : (i : ℕ) → i < n → entryOf l i ≡ inverseAt m h i) (long : length out ≡ n) where
   pub roots-are : tabulate (length out) (added l ω) ≡ tabulate n (rootAt (gf m) ω (entryOf h))
   unfolding rootAt inverseAt
   roots-are = ap (λ (k : ℕ). tabulate k (added l ω)) long ∙ tabulate-cong n (λ i li. ap (λ (x : ℕ). x ⊕ ω) (inverse-is i li))

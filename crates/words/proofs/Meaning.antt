@@ -12,16 +12,15 @@ use lib.Pow.{pow-mono}
 use lib.Seq.{take-all, getD-take, length-take-le, ext-getD}
 use Rattle.algebra.specs.Bits.{bitAt, gf2, gf2-laws}
 use Rattle.algebra.specs.Echelon.{Echelon, Solves, Inside, dot, dot-cong, rest, entry-solves}
-use Rattle.algebra.specs.Sum.{sum-cong}
 use Rattle.algebra.specs.Tabulate.{tabulate, tabulate-cong, length-tabulate, getD-tabulate}
 use Rattle.algebra.specs.Xor.{_⊕_, ⊕-lt}
 use Rattle.field.specs.Gf.{Width, gf}
 use Rattle.slices.specs.Lengths.{longest, longestLog}
 use Rattle.params.specs.Code.{Limits, Accepted, roots-fewer}
 use Rattle.params.specs.Tests.{entryOf}
-use Rattle.words.specs.Word.{whole, held, parityAt, syndromeAt, syndromeOf, isCodeWord}
+use Rattle.words.specs.Word.{whole, parityAt, syndromeOf, isCodeWord}
 use Rattle.words.specs.Columns.{count, chosen, isSum, isMessageColumn, rolesOf, dimension, messageOf, encodingOf}
-use Rattle.words.specs.Parity.{Checks, bitRow, bit-rows, parity-signature}
+use Rattle.words.specs.Parity.{Checks, bitRow, bit-rows, parity-signature, signature-syndrome}
 use Rattle.words.specs.Systematic.{Basis, sum-is-free}
 use Rattle.words.specs.Chosen.{free-count, chosen-tests, count-tests, chosen-cong, chosen-placed, length-chosen}
 use Rattle.words.proofs.Eliminating.{count-le}
@@ -37,6 +36,10 @@ length-whole n = length-tabulate n (λ j. j)
 pub whole-at : (n j : ℕ) → j < n → entryOf (whole n) j ≡ j
 unfolding whole
 whole-at n j l = getD-tabulate n (λ j. j) j 0 l
+
+pub whole-inside : (n j : ℕ) → j < length (whole n) → entryOf (whole n) j < n
+whole-inside n j l =
+    let inside : j < n = subst (λ (k : ℕ). j < k) (length-whole n) l in subst (λ (c : ℕ). c < n) (sym (whole-at n j inside)) inside
 
 pub take-whole : (n k : ℕ) → n ≤ k → take n (whole k) ≡ whole n
 take-whole n k h =
@@ -79,16 +82,10 @@ free-counted m n t h rows leads rank P =
 
 -- the signature's sums are the syndrome, whatever the offset
 pub syndrome-is : (m n t ω : ℕ) (h word : List ℕ) → Accepted m n t ω h → tabulate t (signatureSum m h (whole n) word) ≡ syndromeOf m ω h (whole n) t word
-unfolding syndromeOf syndromeAt signatureSum
+unfolding syndromeOf
 syndrome-is m n t ω h word A =
     tabulate-cong t
-    (λ i li.
-    sum-cong (gf m) (length (whole n))
-    (λ j lj.
-    let inside : j < n = subst (λ (k : ℕ). j < k) (length-whole n) lj in
-    ap (held (entryOf word j))
-    (sym (parity-signature m n t ω h A i (entryOf (whole n) j) (lt-of-lt-of-le li (t-short m n t h (A .limits)))
-    (subst (λ (c : ℕ). c < n) (sym (whole-at n j inside)) inside)))))
+    (λ i li. signature-syndrome m n t ω h (whole n) word A (whole-inside n) i (lt-of-lt-of-le li (t-short m n t h (A .limits))))
 
 -- ---- the table of an accepted code
 
@@ -100,10 +97,6 @@ module _ (m n t ω : ℕ) (h rows leads : List ℕ) (rank : ℕ) (A : Accepted m
   cols = whole n
 
   -- its rows are a basis of the parity rows
-  column-inside : (j : ℕ) → j < length cols → entryOf cols j < n
-  column-inside j lj =
-      let inside : j < n = subst (λ (k : ℕ). j < k) (length-whole n) lj in subst (λ (c : ℕ). c < n) (sym (whole-at n j inside)) inside
-
   table-basis : Basis m W (length cols) t (e m t ω h cols W) (e-in m t ω h cols W) (rowBit rows) (leadAt leads)
   unfolding parityBit
   table-basis =
@@ -120,7 +113,7 @@ module _ (m n t ω : ℕ) (h rows leads : List ℕ) (rank : ℕ) (A : Accepted m
       entry : (i j b : ℕ) → i < t → j < length cols → parityBit h cols i b j ≡ bitRow m W (length cols) t (e m t ω h cols W) (e-in m t ω h cols W) i b j
       entry i j b li lj =
           ap (λ (x : ℕ). bitAt x b)
-          (sym (parity-signature m n t ω h A i (entryOf cols j) (lt-of-lt-of-le li (t-short m n t h (A .limits))) (column-inside j lj)))
+          (sym (parity-signature m n t ω h A i (entryOf cols j) (lt-of-lt-of-le li (t-short m n t h (A .limits))) (whole-inside n j lj)))
 
       same : (i b : ℕ) → i < t → (w : ℕ → ℕ) → dot gf2 (length cols) (parityBit h cols i b) w ≡ dot gf2 (length cols) (bitRow m W (length cols) t (e m t ω h cols W) (e-in m t ω h cols W) i b) w
       same i b li w = dot-cong gf2 gf2-laws (length cols) w (λ j lj. entry i j b li lj)

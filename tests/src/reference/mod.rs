@@ -4,4 +4,5 @@
 pub mod block;
 pub mod field;
 pub mod params;
+pub mod repair;
 pub mod words;

@@ -5,7 +5,7 @@ use borrow.Author.Needs.{needs}
 use Rattle.field.specs.Rules.{refuse, accept}
 use Rattle.slices.specs.declared.Outcome.the-variants.{Refused}
 use Rattle.params.specs.Answers.{checkFault, checkAnswer, rootsAfter, supportAfter}
-use Rattle.params.proofs.Stored.{checked, roots-are, support-is}
+use Rattle.params.proofs.Stored.{checked, inverses-stored, roots-are, support-is}
 use Rattle.params.proofs.check.Statement.{statement}
 use Rattle.params.proofs.check.Tie as tie
 
@@ -59,12 +59,13 @@ returns-2 c =
     let number = d .code-fault-inverses .ensures .0 in
     let none = c .before .before .before .before .before .before .before .before .if1 .left in
     let K = checked (a .m) (a .n) (a .t) (a .omega) (a .h .now) (a .roots .now) (a .support .now) (sym number ∙ none) in
-    let stored = d .code-fault-inverses .ensures .1 none in
+    let inverses = d .code-fault-inverses .last .1 .1 .1 .1 .1 .1 .0 in
+    let stored = inverses-stored (a .m) (a .n) (a .h .now) inverses _ (d .code-fault-inverses .ensures .1 none) in
     let s = c .before .before .before .before .store .ensures in (
       accept Refused _ number none,
       (
-        s .0 ∙ roots-are (a .m) (a .n) (a .omega) (a .h .now) _ _ (a .roots .now) stored (K .roots-long) ∙ accept (λ k. a .roots .now) _ number none,
-        s .1 ∙ support-is (a .m) (a .n) (a .omega) (a .h .now) _ _ (a .support .now) stored (K .support-long)
+        s .0 ∙ roots-are (a .m) (a .n) (a .omega) (a .h .now) inverses (a .roots .now) stored (K .roots-long) ∙ accept (λ k. a .roots .now) _ number none,
+        s .1 ∙ support-is (a .m) (a .n) (a .omega) (a .h .now) inverses (a .support .now) stored (K .support-long)
             ∙ accept (λ k. a .support .now) _ number none,
       ),
     )

@@ -1,0 +1,22 @@
+// Repair of received words.
+use crate::wire;
+use field::Elem;
+ghost use mathlib.Core.Path.{_≡_};
+ghost use Rattle.repair.specs.Answers.{repairAnswer, repairAfter};
+ghost use Rattle.capi.specs.Wire.{recoveryCode};
+
+#[no_mangle]
+pub extern "C" fn zov_repair(
+    m: u32,
+    n: u32,
+    t: u32,
+    omega: u32,
+    h: &[Elem],
+    received: &[u8],
+    repaired: &mut [u8],
+) -> u32
+    ensures { λ r. ⌜ r ≡ recoveryCode (repairAnswer m n t omega (now (h .entry)) (now (received .entry)) (now (repaired .entry))) ⌝ }
+    ensures { λ _. ⌜ now (repaired .exit) ≡ repairAfter m n t omega (now (h .entry)) (now (received .entry)) (now (repaired .entry)) ⌝ }
+{
+    wire::recovery_code(repair::repair(m, n, t, omega, h, received, repaired))
+}

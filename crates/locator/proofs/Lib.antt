@@ -1,0 +1,4 @@
+pub mod Horner
+pub mod Loops
+pub mod Values
+pub mod Turns

@@ -1,0 +1,316 @@
+//! Repair: the code word within t places of the word received, if there is one.
+//!
+//! Three methods, each by itself evident. Where a code has few words, all are compared with the word received. For
+//! small t, all choices of at most t places are looked through, in two halves, for one with the syndrome of the word
+//! received. Elsewhere the locator's equations are solved, and what they give is checked.
+
+use super::params::{self, Params};
+use super::field;
+use super::words::{self, Code};
+use crate::Elem;
+use std::collections::HashMap;
+
+/// A repaired word and the number of places in which it differs from the word received.
+pub type Repaired = Option<(Vec<u8>, u32)>;
+
+/// The number of places where two words differ.
+pub fn distance(one: &[u8], other: &[u8]) -> usize {
+    one.iter().zip(other).filter(|(a, b)| a != b).count()
+}
+
+/// A code, prepared for the repair of many words.
+pub struct Decoder {
+    pub code: Code,
+    method: Method,
+}
+
+enum Method {
+    /// All code words.
+    List(Vec<Vec<u8>>),
+    /// All choices of places that make up half of an error.
+    Halves(Halves),
+    Locator,
+}
+
+impl Decoder {
+    pub fn new(code: Code) -> Decoder {
+        let method = if code.n() <= 8 {
+            Method::List(code_words_among_all_words(&code))
+        } else if code.k() <= 10 {
+            Method::List(code_words_of_all_messages(&code))
+        } else if code.params.t <= 4 {
+            Method::Halves(Halves::new(&code))
+        } else {
+            Method::Locator
+        };
+        Decoder { code, method }
+    }
+
+    pub fn repair(&self, received: &[u8]) -> Repaired {
+        match &self.method {
+            Method::List(code_words) => nearest_of_list(&self.code, code_words, received),
+            Method::Halves(halves) => halves.repair(&self.code, received),
+            Method::Locator => repair_by_locator(&self.code, received),
+        }
+    }
+}
+
+/// The code words found by looking at every word of n bits.
+fn code_words_among_all_words(code: &Code) -> Vec<Vec<u8>> {
+    let words = (0..1_usize << code.n()).map(|number| bits(number, code.n()));
+    words.filter(|word| code.is_code_word(word)).collect()
+}
+
+/// The code words of all messages.
+fn code_words_of_all_messages(code: &Code) -> Vec<Vec<u8>> {
+    (0..1_usize << code.k()).map(|number| code.encode(&bits(number, code.k()))).collect()
+}
+
+fn bits(number: usize, length: usize) -> Vec<u8> {
+    (0..length).map(|place| (number >> place & 1) as u8).collect()
+}
+
+/// The code word of the list within t places of the word received. Demand 3 says that there is at most one.
+fn nearest_of_list(code: &Code, code_words: &[Vec<u8>], received: &[u8]) -> Repaired {
+    let t = code.params.t as usize;
+    let mut near = code_words.iter().filter(|word| distance(word, received) <= t);
+    let found = near.next()?;
+    assert!(near.next().is_none(), "two code words within t places: {:?}, {received:?}", code.params);
+    Some((found.clone(), distance(found, received) as u32))
+}
+
+/// Choices of places by their syndrome. An error of at most t places is one of at most ⌈t/2⌉ and one of at most ⌊t/2⌋.
+struct Halves {
+    larger: HashMap<u64, Vec<usize>>,
+    smaller: Vec<(u64, Vec<usize>)>,
+}
+
+impl Halves {
+    fn new(code: &Code) -> Halves {
+        let t = code.params.t as usize;
+        let columns: Vec<u64> = (0..code.n()).map(|j| key(code.parity.iter().map(|row| row[j]))).collect();
+        let larger = choices(&columns, t.div_ceil(2)).into_iter().collect();
+        Halves { larger, smaller: choices(&columns, t / 2) }
+    }
+
+    fn repair(&self, code: &Code, received: &[u8]) -> Repaired {
+        let wanted = key(code.syndrome(received).into_iter());
+        let (one, other) = self.smaller.iter().find_map(|(sum, places)| {
+            let rest = self.larger.get(&(wanted ^ sum))?;
+            Some((places, rest))
+        })?;
+        let mut repaired = received.to_vec();
+        for &place in one.iter().chain(other) {
+            repaired[place] ^= 1;
+        }
+        let count = distance(&repaired, received) as u32;
+        assert!(code.is_code_word(&repaired) && count <= code.params.t, "{:?}, {received:?}", code.params);
+        Some((repaired, count))
+    }
+}
+
+/// At most four elements as one number, so that sums of columns are sums of numbers.
+fn key(elements: impl Iterator<Item = Elem>) -> u64 {
+    let mut key = 0;
+    for (count, element) in elements.enumerate() {
+        assert!(count < 4, "the key holds four elements");
+        key = key << 16 | u64::from(element);
+    }
+    key
+}
+
+/// All choices of at most `most` columns, with their sums.
+fn choices(columns: &[u64], most: usize) -> Vec<(u64, Vec<usize>)> {
+    let mut all = vec![(0, Vec::new())];
+    let mut last = all.clone();
+    for _ in 0..most {
+        let mut longer = Vec::new();
+        for (sum, places) in &last {
+            let start = places.last().map_or(0, |place| place + 1);
+            for place in start..columns.len() {
+                longer.push((sum ^ columns[place], [places.as_slice(), &[place]].concat()));
+            }
+        }
+        all.extend(longer.iter().cloned());
+        last = longer;
+    }
+    all
+}
+
+/// Repair by the locator's equations.
+///
+/// A binary word is in the code of a Goppa polynomial g without multiple roots exactly if it is in the code of g².
+/// The second gives 2t sums, S_l being that of L_j^l / g(L_j)² over the places that hold 1. If w places are in error,
+/// w at most t, the polynomial with exactly their L_j as roots, x^w plus lower terms, takes any w + 1 neighbouring
+/// sums to zero, and no other such polynomial of degree w or below does. So the lowest degree for which the equations
+/// can be solved is tried, its roots among the L_j are turned, and the result is checked.
+pub fn repair_by_locator(code: &Code, received: &[u8]) -> Repaired {
+    let (m, t) = (code.params.m, code.params.t as usize);
+    let support = params::support(&code.params);
+    let roots = &params::roots(&code.params)[..t];
+    let mut sums = vec![0; 2 * t];
+    for (&place, _) in support.iter().zip(received).filter(|(_, &bit)| bit == 1) {
+        let goppa = roots.iter().fold(1, |product, root| field::times(m, product, place ^ root));
+        let mut term = field::reciprocal(m, field::times(m, goppa, goppa));
+        for sum in &mut sums {
+            *sum ^= term;
+            term = field::times(m, term, place);
+        }
+    }
+    // For each l: the lower coefficients times S_l, S_(l+1), ... make up S_(l+w).
+    let locator = (0..=t).find_map(|w| {
+        let equations = (0..2 * t - w).map(|l| sums[l..=l + w].to_vec()).collect();
+        solve(m, w, equations)
+    })?;
+    let mut repaired = received.to_vec();
+    for (bit, &place) in repaired.iter_mut().zip(&support) {
+        let value = locator.iter().rev().fold(1, |value, &coefficient| field::times(m, value, place) ^ coefficient);
+        *bit ^= u8::from(value == 0);
+    }
+    let count = distance(&repaired, received);
+    (count <= t && code.is_code_word(&repaired)).then_some((repaired, count as u32))
+}
+
+/// One solution of linear equations in `unknowns` unknowns, if there is any. An equation is its coefficients and then
+/// what they make up.
+fn solve(m: u32, unknowns: usize, mut equations: Vec<Vec<Elem>>) -> Option<Vec<Elem>> {
+    let mut solved: Vec<usize> = Vec::new();
+    for unknown in 0..unknowns {
+        let done = solved.len();
+        let Some(pivot) = (done..equations.len()).find(|&row| equations[row][unknown] != 0) else {
+            continue;
+        };
+        equations.swap(done, pivot);
+        let scale = field::multiples(m, field::reciprocal(m, equations[done][unknown]));
+        equations[done].iter_mut().for_each(|entry| *entry = scale[usize::from(*entry)]);
+        let scaled = equations[done].clone();
+        for row in (0..equations.len()).filter(|&row| row != done) {
+            let multiples = field::multiples(m, equations[row][unknown]);
+            for (entry, &other) in equations[row].iter_mut().zip(&scaled) {
+                *entry ^= multiples[usize::from(other)];
+            }
+        }
+        solved.push(unknown);
+    }
+    // What is left has no unknowns.
+    if equations[solved.len()..].iter().any(|equation| equation[unknowns] != 0) {
+        return None;
+    }
+    let mut solution = vec![0; unknowns];
+    for (equation, unknown) in equations.iter().zip(solved) {
+        solution[unknown] = equation[unknowns];
+    }
+    Some(solution)
+}
+
+/// The repaired word with its count, or 10.
+pub fn repair(params: &Params, received: &[u8], repaired_length: usize) -> Result<(Vec<u8>, u32), u32> {
+    params::judge(params, &[(received.len(), params.n), (repaired_length, params.n)])?;
+    words::judge_bits(received)?;
+    Decoder::new(Code::new(params)).repair(received).ok_or(10)
+}
+
+#[cfg(test)]
+mod tests {
+    use super::params::{code_a, code_t};
+    use super::*;
+    use crate::draw;
+    use crate::random::Random;
+
+    fn ones_at(n: usize, places: &[usize]) -> Vec<u8> {
+        (0..n).map(|place| u8::from(places.contains(&place))).collect()
+    }
+
+    fn turned(word: &[u8], places: &[usize]) -> Vec<u8> {
+        (0..word.len()).map(|place| word[place] ^ u8::from(places.contains(&place))).collect()
+    }
+
+    #[test]
+    fn cases() {
+        assert_eq!(repair(&code_a(), &[1, 0, 1, 0], 4), Ok((vec![1, 0, 1, 1], 1)));
+        assert_eq!(repair(&code_a(), &[1, 1, 0, 0], 4), Err(10));
+        let first_dark = ones_at(16, &[1, 2, 5, 6, 7, 8]);
+        assert_eq!(repair(&code_t(), &turned(&first_dark, &[0, 8]), 16), Ok((first_dark, 2)));
+        assert_eq!(repair(&code_t(), &ones_at(16, &[1, 2, 5]), 16), Err(10));
+    }
+
+    #[test]
+    fn refusals() {
+        assert_eq!(repair(&code_t(), &[2; 15], 16), Err(2));
+        assert_eq!(repair(&code_t(), &[2; 16], 15), Err(2));
+        assert_eq!(repair(&code_t(), &[2; 16], 16), Err(8));
+        assert_eq!(repair(&Params { t: 3, ..code_t() }, &[2; 16], 16), Err(7));
+    }
+
+    /// Every method that a code allows gives one answer, for words of every distance from a code word.
+    #[test]
+    fn the_methods_agree() {
+        let mut random = Random::new(19);
+        let mut too_far = 0;
+        for (m, n, t) in draw::shapes() {
+            let code = Code::new(&draw::params(&mut random, m, n, t));
+            let all_words = (n <= 8).then(|| code_words_among_all_words(&code));
+            let all_messages = (code.k() <= 12).then(|| code_words_of_all_messages(&code));
+            let halves = (t <= 4).then(|| Halves::new(&code));
+            for weight in 0..=code.n() {
+                let sent = code.encode(&random.bits(code.k()));
+                let received = turned(&sent, &random.places(code.n(), weight));
+                let answer = repair_by_locator(&code, &received);
+                if weight <= t as usize {
+                    assert_eq!(answer, Some((sent, weight as u32)), "{:?}", code.params);
+                }
+                for list in all_words.iter().chain(&all_messages) {
+                    assert_eq!(nearest_of_list(&code, list, &received), answer, "{:?}, {received:?}", code.params);
+                }
+                if let Some(halves) = &halves {
+                    assert_eq!(halves.repair(&code, &received), answer, "{:?}, {received:?}", code.params);
+                }
+                too_far += usize::from(answer.is_none());
+            }
+        }
+        assert!(too_far > 100, "words that are too far were among them");
+    }
+
+    /// Over all words of small codes, and many codes.
+    #[test]
+    fn the_methods_agree_on_all_words() {
+        let mut random = Random::new(20);
+        for (m, n, t) in draw::shapes().into_iter().filter(|shape| shape.1 <= 8) {
+            for _ in 0..10 {
+                let code = Code::new(&draw::params(&mut random, m, n, t));
+                let list = code_words_among_all_words(&code);
+                for number in 0..1_usize << n {
+                    let received = bits(number, code.n());
+                    let nearest = nearest_of_list(&code, &list, &received);
+                    assert_eq!(repair_by_locator(&code, &received), nearest, "{:?}, {received:?}", code.params);
+                }
+            }
+        }
+    }
+
+    /// Any two code words differ in more than 2t places, so that demand 3's code word is the only one.
+    #[test]
+    fn code_words_lie_far_apart() {
+        let mut random = Random::new(21);
+        for (m, n, t) in draw::shapes() {
+            let code = Code::new(&draw::params(&mut random, m, n, t));
+            if code.k() <= 12 {
+                // Sums of code words are code words: what a word weighs is a distance.
+                for word in code_words_of_all_messages(&code) {
+                    let weight = word.iter().filter(|&&bit| bit == 1).count();
+                    assert!(weight == 0 || weight > 2 * t as usize, "{:?}, {word:?}", code.params);
+                }
+            }
+        }
+    }
+
+    #[test]
+    fn linear_equations() {
+        // Width 3: 2x = 6 and x + y = 1.
+        assert_eq!(solve(3, 2, vec![vec![2, 0, 6], vec![1, 1, 1]]), Some(vec![3, 2]));
+        assert_eq!(solve(3, 2, vec![vec![1, 1, 1], vec![2, 2, 1]]), None);
+        assert_eq!(solve(3, 1, vec![vec![0, 0], vec![3, 3]]), Some(vec![1]));
+        assert_eq!(solve(3, 0, vec![vec![0], vec![0]]), Some(vec![]));
+        assert_eq!(solve(3, 0, vec![vec![0], vec![5]]), None);
+    }
+}
