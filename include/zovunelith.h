@@ -61,6 +61,20 @@ int32_t zov_message(uint32_t m, uint32_t n, uint32_t t, uint32_t omega, const zo
 int32_t zov_repair(uint32_t m, uint32_t n, uint32_t t, uint32_t omega, const zov_elem *h, size_t h_length,
                    const uint8_t *received, size_t received_length, uint8_t *repaired, size_t repaired_length);
 
+/* Gear rows: a gear from 0 (neutral) to 6 and a lamp, 0 dark, 1 green (in neutral only) or 2 amber.
+ *
+ * zov_write_row writes the word of a row; the value is 0. Refused by 1 to 7, 12 (k below 5), 11 (no such row).
+ * zov_read_row repairs the word received into `repaired` and reads the row that it carries; the value is
+ * gear + 8 * lamp + 32 * count, where count is the number of places repaired. Refused by 1 to 7, 12, 8, 10, 11. */
+int32_t zov_write_row(uint32_t m, uint32_t n, uint32_t t, uint32_t omega, const zov_elem *h, size_t h_length,
+                      uint32_t gear, uint32_t lamp, uint8_t *word, size_t word_length);
+int32_t zov_read_row(uint32_t m, uint32_t n, uint32_t t, uint32_t omega, const zov_elem *h, size_t h_length,
+                     const uint8_t *received, size_t received_length, uint8_t *repaired, size_t repaired_length);
+
+/* The bench sheet: a code as text of two lines, each number in four columns. The listing of that code goes to the front
+ * of `out`; the value is its length, at most 2201. Refused by 13 (no sheet), 1 to 7 (its code), 2 (no room in `out`). */
+int32_t zov_sheet(const uint8_t *text, size_t text_length, uint8_t *out, size_t out_length);
+
 #ifdef __cplusplus
 }
 #endif

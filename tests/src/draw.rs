@@ -1,8 +1,8 @@
 //! Random codes: accepted ones of every shape, and ones with chosen faults.
 
 use crate::random::Random;
-use crate::reference::params::{Params, LENGTHS, ROWS};
 use crate::reference::field;
+use crate::reference::params::{Params, LENGTHS, ROWS};
 use crate::Elem;
 
 /// Every m, n and t for which a code can be accepted: n is at most q/2 and t at most n/2.

@@ -1,16 +1,15 @@
 //! A second implementation of the coded gear rows, written from the definitions alone and by other algorithms than
 //! the product's, and what is needed to compare every public call of the product with it.
 //!
-//! `reference` is the second implementation, `ffi` the product's C interface; `random` and `draw` make the inputs, and
+//! `reference` is the second implementation, `library` the product through its Rust crate; `random` and `draw` make the inputs, and
 //! `canary` lends the buffers and sees what became of them.
 //!
 //! `ZOV_SEED` in the environment replaces the seeds of all tests.
 
 pub mod canary;
 pub mod draw;
-pub mod ffi;
+pub mod library;
 pub mod random;
 pub mod reference;
 
-/// A field element as it crosses the C interface (`zov_elem`).
-pub type Elem = u8;
+pub use zovunelith::Elem;

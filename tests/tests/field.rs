@@ -1,6 +1,6 @@
 //! Sum, product and inverse of elements, against carry-less multiplication and exhaustive search.
 
-use zovunelith_tests::ffi::field as library;
+use zovunelith_tests::library::field as library;
 use zovunelith_tests::random::Random;
 use zovunelith_tests::reference::field as reference;
 

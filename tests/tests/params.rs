@@ -2,10 +2,10 @@
 
 use zovunelith_tests::canary::Lent;
 use zovunelith_tests::draw::{self, CodeFault, BAD_LENGTHS, BAD_WIDTHS};
-use zovunelith_tests::ffi::params as library;
+use zovunelith_tests::library::params as library;
 use zovunelith_tests::random::Random;
-use zovunelith_tests::reference::params::{self as reference, code_a, code_t, Params};
 use zovunelith_tests::reference::field;
+use zovunelith_tests::reference::params::{self as reference, code_a, code_t, Params};
 use zovunelith_tests::Elem;
 
 /// z and L, as a check gives them.
@@ -23,7 +23,7 @@ fn compare_lent(params: &Params, roots_length: usize, support_length: usize) -> 
     let mut roots = Lent::marked(roots_length);
     let mut support = Lent::marked(support_length);
     let answer = library::check(numbers(params), h.slice(), roots.slice_mut(), support.slice_mut());
-    assert_eq!(answer, expected.as_ref().map(|_| 0).map_err(|&number| number), "{params:?}");
+    assert_eq!(answer, expected.as_ref().map(|_| ()).map_err(|&number| number), "{params:?}");
     h.assert_unchanged();
     roots.assert_holds(expected.as_ref().ok().map(|lists| lists.0.as_slice()));
     support.assert_holds(expected.as_ref().ok().map(|lists| lists.1.as_slice()));
@@ -43,7 +43,7 @@ fn compare_two(one: &Params, other: &Params) -> Result<bool, u32> {
     let expected = reference::same(one, other);
     let (h1, h2) = (Lent::holding(&one.h), Lent::holding(&other.h));
     let answer = library::same(numbers(one), h1.slice(), numbers(other), h2.slice());
-    assert_eq!(answer, expected.map(u32::from), "{one:?} and {other:?}");
+    assert_eq!(answer, expected, "{one:?} and {other:?}");
     h1.assert_unchanged();
     h2.assert_unchanged();
     expected

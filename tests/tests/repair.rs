@@ -6,10 +6,10 @@
 use std::ops::RangeInclusive;
 use zovunelith_tests::canary::Lent;
 use zovunelith_tests::draw::{self, CodeFault};
-use zovunelith_tests::ffi::repair as library;
+use zovunelith_tests::library::repair as library;
 use zovunelith_tests::random::{number_from_environment, Random};
-use zovunelith_tests::reference::params::{code_a, code_t, Params};
 use zovunelith_tests::reference::field;
+use zovunelith_tests::reference::params::{code_a, code_t, Params};
 use zovunelith_tests::reference::repair::{self as reference, distance, Decoder};
 use zovunelith_tests::reference::words::Code;
 

@@ -2,10 +2,10 @@
 
 use zovunelith_tests::canary::Lent;
 use zovunelith_tests::draw::{self, CodeFault};
-use zovunelith_tests::ffi::words as library;
+use zovunelith_tests::library::words as library;
 use zovunelith_tests::random::Random;
-use zovunelith_tests::reference::params::{code_a, code_t, Params};
 use zovunelith_tests::reference::field;
+use zovunelith_tests::reference::params::{code_a, code_t, Params};
 use zovunelith_tests::reference::words::{self as reference, Code};
 use zovunelith_tests::Elem;
 
@@ -37,7 +37,7 @@ fn syndrome_gives(params: &Params, word: &[u8], syndrome_length: usize, expected
     let (h, word) = (Lent::holding(&params.h), Lent::holding(word));
     let mut syndrome = Lent::marked(syndrome_length);
     let answer = library::syndrome(numbers(params), h.slice(), word.slice(), syndrome.slice_mut());
-    assert_eq!(answer, expected.as_ref().map(|_| 0).map_err(|&number| number), "{params:?}, word {:?}", word.slice());
+    assert_eq!(answer, expected.as_ref().map(|_| ()).map_err(|&number| number), "{params:?}, word {:?}", word.slice());
     h.assert_unchanged();
     word.assert_unchanged();
     syndrome.assert_holds(expected.as_deref().ok());
@@ -49,7 +49,7 @@ fn encoding_gives(params: &Params, message: &[u8], word_length: usize, expected:
     let (h, message) = (Lent::holding(&params.h), Lent::holding(message));
     let mut word = Lent::marked(word_length);
     let answer = library::encode(numbers(params), h.slice(), message.slice(), word.slice_mut());
-    let expected_answer = expected.as_ref().map(|_| 0).map_err(|&number| number);
+    let expected_answer = expected.as_ref().map(|_| ()).map_err(|&number| number);
     assert_eq!(answer, expected_answer, "{params:?}, message {:?}", message.slice());
     h.assert_unchanged();
     message.assert_unchanged();
@@ -62,7 +62,7 @@ fn message_gives(params: &Params, word: &[u8], message_length: usize, expected: 
     let (h, word) = (Lent::holding(&params.h), Lent::holding(word));
     let mut message = Lent::marked(message_length);
     let answer = library::message(numbers(params), h.slice(), word.slice(), message.slice_mut());
-    assert_eq!(answer, expected.as_ref().map(|_| 0).map_err(|&number| number), "{params:?}, word {:?}", word.slice());
+    assert_eq!(answer, expected.as_ref().map(|_| ()).map_err(|&number| number), "{params:?}, word {:?}", word.slice());
     h.assert_unchanged();
     word.assert_unchanged();
     message.assert_holds(expected.as_deref().ok());
@@ -167,16 +167,16 @@ fn buffers_with_other_contents() {
         let word = code.encode(&message);
         for contents in [random.bits(code.n()), vec![0; code.n()], vec![1; code.n()], word.clone()] {
             let mut lent = Lent::holding(&contents);
-            assert_eq!(library::encode(numbers(&code.params), &code.params.h, &message, lent.slice_mut()), Ok(0));
+            assert_eq!(library::encode(numbers(&code.params), &code.params.h, &message, lent.slice_mut()), Ok(()));
             lent.assert_holds(Some(&word));
             let mut lent = Lent::holding(&contents[..code.k()]);
-            assert_eq!(library::message(numbers(&code.params), &code.params.h, &received, lent.slice_mut()), Ok(0));
+            assert_eq!(library::message(numbers(&code.params), &code.params.h, &received, lent.slice_mut()), Ok(()));
             lent.assert_holds(Some(&code.message(&received)));
             let mut lent = Lent::holding(&contents);
             assert_eq!(library::roles(numbers(&code.params), &code.params.h, lent.slice_mut()), Ok(code.k() as u32));
             lent.assert_holds(Some(&code.roles));
             let mut lent: Lent<Elem> = Lent::holding(&vec![1; t as usize]);
-            assert_eq!(library::syndrome(numbers(&code.params), &code.params.h, &received, lent.slice_mut()), Ok(0));
+            assert_eq!(library::syndrome(numbers(&code.params), &code.params.h, &received, lent.slice_mut()), Ok(()));
             lent.assert_holds(Some(&code.syndrome(&received)));
         }
     }

@@ -4,5 +4,7 @@ pub mod blocks;
 pub mod codes;
 pub mod coding;
 pub mod elements;
+pub mod gears;
 pub mod repairing;
+pub mod sheets;
 mod wire;

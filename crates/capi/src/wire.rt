@@ -1,11 +1,16 @@
 // Answers as numbers, since no enum crosses into C.
 use field::Answer;
+use listing::Listed;
 use params::Sameness;
 use repair::Recovery;
+use rows::Lamp;
+use rows::Reading;
 use slices::Outcome;
 use words::Counted;
 ghost use mathlib.Core.Path.{_≡_};
-ghost use Rattle.capi.specs.Wire.{minus, elementCode, outcomeCode, samenessCode, countedCode, recoveryCode};
+ghost use Prim.Native.Nat.{_<_};
+ghost use Rattle.rows.specs.Rows.{lampNumber};
+ghost use Rattle.capi.specs.Wire.{minus, elementCode, outcomeCode, samenessCode, countedCode, recoveryCode, listedCode, readingCode, Small};
 
 pub fn element_code(answer: Answer) -> u32
     ensures { λ r. ⌜ r ≡ elementCode answer ⌝ }
@@ -50,6 +55,40 @@ pub fn recovery_code(recovery: Recovery) -> u32
     match recovery {
         Recovery::Repaired(count) => count,
         Recovery::Refused(number) => minus(number),
+    }
+}
+
+pub fn listed_code(listed: Listed) -> u32
+    ensures { λ r. ⌜ r ≡ listedCode listed ⌝ }
+{
+    match listed {
+        Listed::Length(length) => length,
+        Listed::Refused(number) => minus(number),
+    }
+}
+
+// gear + 8 × lamp + 32 × count.
+pub fn reading_code(reading: Reading) -> u32
+    requires { ⌜ Small reading ⌝ }
+    ensures { λ r. ⌜ r ≡ readingCode reading ⌝ }
+{
+    match reading {
+        Reading::Read(row, count) => {
+            let gear = row.gear;
+            let lamp = row.lamp;
+            gear + 8 * lamp_number(lamp) + 32 * count
+        }
+        Reading::Refused(number) => minus(number),
+    }
+}
+
+fn lamp_number(lamp: Lamp) -> u32
+    ensures { λ r. ⌜ (r ≡ lampNumber lamp) × (r < 3) ⌝ }
+{
+    match lamp {
+        Lamp::Dark => 0,
+        Lamp::Green => 1,
+        Lamp::Amber => 2,
     }
 }
 

@@ -49,6 +49,10 @@ pub fault-past : {t : Bool} {k : ℕ} (n : ℕ) (rules : List Rule) → t ≡ tr
 unfolding fault
 fault-past n rules e f = ap (λ (t : Bool). fault ((n unless t) ∷ rules)) e ∙ f
 
+pub fault-empty : fault [] ≡ 0
+unfolding fault
+fault-empty = refl
+
 -- every number of the list is one of 01's, which begin at 1
 abbrev pub numbered : List Rule → Bool
 numbered [] = true
@@ -58,6 +62,11 @@ numbered ((suc n unless t) ∷ rules) = numbered rules
 abbrev pub Hold : List Rule → Type 0
 Hold [] = Unit {0}
 Hold ((n unless t) ∷ rules) = (t ≡ true) × Hold rules
+
+-- rules that hold ask for no number
+pub fault-none : (rules : List Rule) → Hold rules → fault rules ≡ 0
+fault-none [] hs = fault-empty
+fault-none ((n unless t) ∷ rules) hs = fault-past n rules (hs .0) (fault-none rules (hs .1))
 
 -- no number is due only if every test holds
 pub hold : (rules : List Rule) → T (numbered rules) → fault rules ≡ 0 → Hold rules

@@ -12,7 +12,7 @@ use native.Mathlib.Omega.{arith}
 use borrow.Author.Tests.{leb-true, le-leb, eqb-true, eq-eqb}
 use Rattle.algebra.specs.All.{both-true, all-true}
 use Rattle.field.specs.Gf.{Width, gf}
-use Rattle.field.specs.Rules.{Rule, _unless_, fault, fault-past, isWidth, isElement, numbered, Hold, hold, width, width-is, element, element-is}
+use Rattle.field.specs.Rules.{Rule, _unless_, fault, fault-past, isWidth, isElement, numbered, Hold, hold, width, width-is, element, element-is, fault-empty}
 use Rattle.slices.specs.Lengths.{longestLog, longest, isPower, power-is, power}
 use Rattle.slices.specs.Elements.{allElements, elements-are}
 use Rattle.params.specs.Signature.{Conditions}
@@ -81,16 +81,6 @@ all-elements m h l = all-true (length h) (λ i. isElement m (entryOf h i)) (λ i
 pub code-numbered : (buffers : Bool) (m n t ω : ℕ) (h : List ℕ) → T (numbered (codeRules buffers m n t ω h))
 unfolding codeRules shapeRules signatureRules
 code-numbered buffers m n t ω h = tt
-
--- rules that hold ask for no number
-fault-empty : fault [] ≡ 0
-unfolding fault
-fault-empty = refl
-
-pub fault-none : (rules : List Rule) → Hold rules → fault rules ≡ 0
-unfolding fault
-fault-none [] hs = refl
-fault-none ((n unless t) ∷ rules) hs = fault-past n rules (hs .0) (fault-none rules (hs .1))
 
 -- no number is due exactly if the buffers have their lengths and the code is accepted
 module _ (buffers : Bool) (m n t ω : ℕ) (h : List ℕ) where

@@ -15,16 +15,17 @@ use Rattle.algebra.specs.All.{all, all-cong, both-true}
 use Rattle.algebra.specs.Locator.Nodal.{Points, points-cong}
 use Rattle.algebra.specs.Locator.Pass.{Invariant, invariant-cong}
 use Rattle.algebra.specs.Locator.Split.{value}
-use Rattle.algebra.specs.Tabulate.{tabulate, tabulate-cong, length-tabulate, getD-tabulate, Filling, filling-start, filling-turn}
+use Rattle.algebra.specs.Tabulate.{filled, tabulate, tabulate-cong, length-tabulate, getD-tabulate, Filling, filling-start, filling-turn}
 use Rattle.algebra.specs.Xor.{_⊕_, ⊕-lt}
 use Rattle.field.specs.Gf.{gf}
-use Rattle.field.specs.Rules.{_unless_, fault, unless-refused, fault-here, fault-past, fault-first, refuse, accept}
+use Rattle.field.specs.Rules.{_unless_, fault, unless-refused, fault-empty, fault-here, fault-past, fault-first, refuse, accept}
 use Rattle.slices.specs.Lengths.{longest}
 use Rattle.params.specs.Acceptance.{accepted-pair}
 use Rattle.params.specs.Answers.{codeFault}
 use Rattle.params.specs.Code.{Accepted, codeRules, power-short}
 use Rattle.params.specs.Existence.{rootAt, supportAt}
-use Rattle.params.specs.Tests.{entryOf}
+use Rattle.params.specs.Tests.{entryOf, inverseAt}
+use Rattle.params.proofs.Stored.{inverses-stored}
 use Rattle.words.specs.Chosen.{count-tests}
 use Rattle.words.specs.Columns.{count}
 use Rattle.words.specs.Encoding.{IsBits}
@@ -36,12 +37,12 @@ use Rattle.repair.specs.declared.Recovery.{Recovery}
 use Rattle.repair.specs.declared.Recovery.the-variants.{Repaired, Refused}
 use Rattle.repair.specs.Answers.{wordRules, turnedCount, wordAnswer, wordAfter, repairFault, repairAnswer, repairAfter}
 use Rattle.locator.specs.Coefficients.{halvesOf, Syndrome, Located}
-use Rattle.repair.specs.Decoding.{rootPlace, Candidate}
+use Rattle.repair.specs.Decoding.{rootPlace, Inverted, Candidate}
 use Rattle.repair.specs.Demand.{near-unique, repaired-code-word, repaired-within}
 use Rattle.repair.specs.Errors.{roots}
 use Rattle.repair.specs.Found.{isError, repaired-found, not-found}
 use Rattle.repair.specs.Repair.{distance, isRepairable, repairedOf}
-use Rattle.repair.specs.Search.{near, repairable}
+use Rattle.repair.specs.Search.{near, repairable, distance-self}
 use Rattle.repair.specs.Selected.{Selected}
 use Rattle.repair.specs.Turned.{turned, length-turned, turned-bits}
 
@@ -77,12 +78,6 @@ turning-turn {n} {p} {received} {old} {now} {number} {j} T l b e v-is number-is 
     one-more false l = omega arith
 
 -- ---- an accepted code and a selection of its columns
-
-distance-self : (n : ℕ) (r : List ℕ) → distance n r r ≡ 0
-unfolding distance count
-distance-self zero r = refl
-distance-self (suc n) r =
-    ap₂ (λ (k : ℕ) (b : Bool). k + cond (not b) 1 0) (distance-self n r) (eq-eqb (entryOf r n) (entryOf r n) refl)
 
 module _ {m n t ω : ℕ} {h : List ℕ} (A : Accepted m n t ω h) where
   pub code-short : n ≤ longest
@@ -205,9 +200,9 @@ module _ {m n t ω : ℕ} {h cols : List ℕ} (A : Accepted m n t ω h) (C : Sel
       pub repaired-ends : {number : ℕ} {word : List ℕ} (old : List ℕ) → isRepairable m t ω h cols received ≡ true
           → word ≡ repairedOf m t ω h cols received → number ≡ distance (length cols) received (repairedOf m t ω h cols received)
           → (Repaired number ≡ wordAnswer m t ω h cols received) × (word ≡ wordAfter m t ω h cols received old)
-      unfolding wordAnswer wordAfter wordRules turnedCount fault
+      unfolding wordAnswer wordAfter wordRules turnedCount
       repaired-ends old e word-repaired number-is =
-          let f = sym (fault-past 8 ((10 unless isRepairable m t ω h cols received) ∷ []) word-is (fault-past 10 [] e refl)) in
+          let f = sym (fault-past 8 ((10 unless isRepairable m t ω h cols received) ∷ []) word-is (fault-past 10 [] e fault-empty)) in
           (ap Repaired number-is ∙ accept {k = 0} Refused _ f refl, word-repaired ∙ accept {k = 0} (λ k. old) _ f refl)
 
       -- a code word is its own repair
@@ -285,3 +280,12 @@ module _ (m n t ω : ℕ) (h received repaired : List ℕ) where
           left ∙ ap (λ (x : List ℕ). wordAfter m t ω h x received repaired) here
               ∙ ap (λ (k : ℕ). unless-refused k (λ i. repaired) (repairedOf m t ω h (whole n) received)) f,
         )
+
+-- the inverses that the test of a code leaves
+pub inverted : (m n : ℕ) (h inverses old : List ℕ) → n ≡ length h → n ≤ length inverses → inverses ≡ filled (inverseAt m h) n old
+    → Inverted m h inverses
+inverted m n h inverses old e long stored =
+    record {
+      long = subst (λ (k : ℕ). k ≤ length inverses) e long;
+      are = λ i l. inverses-stored m n h inverses old stored i (subst (λ (k : ℕ). i < k) (sym e) l);
+    }

@@ -1,23 +1,29 @@
 -- What the definition's search finds: any code word of n bits near the word received makes it repairable, and what is then found is one.
 --
 -- That there is no other is the theorem of `Found`.
-use mathlib.Core.Path.{_≡_, sym, ap, ap₂, _∙_, subst}
-use mathlib.Core.Bool.{Bool, true, _&&_}
+use mathlib.Core.Path.{_≡_, refl, sym, ap, ap₂, _∙_, subst}
+use mathlib.Core.Bool.{Bool, true, cond, not, _&&_}
 use mathlib.Core.List.{List}
-use Prim.Native.Nat.{ℕ, _^_, _<_, _≤_}
+use Prim.Native.Nat.{ℕ, zero, suc, _+_, _^_, _<_, _≤_}
 use lib.Dec.{leb}
 use lib.ListN.{length}
-use borrow.Author.Tests.{leb-true, le-leb}
+use borrow.Author.Tests.{leb-true, le-leb, eq-eqb}
 use Rattle.algebra.specs.All.{some-true, some-is, both-true}
 use Rattle.algebra.specs.Bits.{bitAt, bitAt-lt, numberOf, numberOf-lt}
 use Rattle.algebra.specs.Tabulate.{length-tabulate, getD-tabulate}
 use Rattle.field.specs.Gf.{Width}
 use Rattle.params.specs.Tests.{entryOf}
 use Rattle.words.specs.Chosen.{found-passes}
-use Rattle.words.specs.Columns.{wordOf, found}
+use Rattle.words.specs.Columns.{count, wordOf, found}
 use Rattle.words.specs.Encoding.{IsBits, word-number}
 use Rattle.words.specs.Word.{isCodeWord}
 use Rattle.repair.specs.Repair.{distance, isNear, isRepairable, repairedOf}
+
+pub distance-self : (n : ℕ) (r : List ℕ) → distance n r r ≡ 0
+unfolding distance count
+distance-self zero r = refl
+distance-self (suc n) r =
+    ap₂ (λ (k : ℕ) (b : Bool). k + cond (not b) 1 0) (distance-self n r) (eq-eqb (entryOf r n) (entryOf r n) refl)
 
 module _ (m t ω : ℕ) (h cols : List ℕ) (W : Width m) where
   abbrev N : ℕ

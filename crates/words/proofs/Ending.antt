@@ -28,10 +28,6 @@ ended-refused old value e ne = record { number = e; buffer = refuse (λ k. old) 
 pub ended-done : {due : ℕ} (old value : List ℕ) → due ≡ 0 → Ended 0 due old value value
 ended-done old value z = record { number = sym z; buffer = accept (λ k. old) value (sym z) refl }
 
-pub fault-none-left : fault [] ≡ 0
-unfolding fault
-fault-none-left = refl
-
 -- ---- the message's length and its bits
 
 module _ (m n t ω : ℕ) (h rows leads : List ℕ) (rank : ℕ) (A : Accepted m n t ω h) (P : ParityBasis m t h (whole n) rows leads rank) where

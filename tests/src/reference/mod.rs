@@ -5,4 +5,6 @@ pub mod block;
 pub mod field;
 pub mod params;
 pub mod repair;
+pub mod rows;
+pub mod sheet;
 pub mod words;

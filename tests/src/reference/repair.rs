@@ -4,8 +4,8 @@
 //! small t, all choices of at most t places are looked through, in two halves, for one with the syndrome of the word
 //! received. Elsewhere the locator's equations are solved, and what they give is checked.
 
-use super::params::{self, Params};
 use super::field;
+use super::params::{self, Params};
 use super::words::{self, Code};
 use crate::Elem;
 use std::collections::HashMap;

@@ -3,8 +3,8 @@
 //! All of it comes from one row reduction of the parity matrix over the bits, from the left: a column is a sum of
 //! columns before it exactly if no row gets its first 1 there.
 
-use super::params::{self, Params};
 use super::field;
+use super::params::{self, Params};
 use crate::Elem;
 
 /// An accepted code with its parity matrix.

@@ -1,16 +1,13 @@
 -- `repair` meets its contract: the code's number, or what repair answers for the whole code.
-use mathlib.Core.Path.{_≡_, sym, _∙_, subst}
+use mathlib.Core.Path.{sym, _∙_}
 use mathlib.Core.Bool.{_&&_}
-use Prim.Native.Nat.{ℕ, _<_}
 use native.Mathlib.Omega.{arith}
 use lib.Dec.{eqb}
 use lib.ListN.{length}
 use borrow.Author.Needs.{needs}
 use Rattle.field.proofs.Shift.{element-fits}
-use Rattle.params.proofs.Stored.{inverses-stored}
 use Rattle.words.proofs.Ending.{n-is, accepted-here}
-use Rattle.repair.specs.Decoding.{Inverted}
-use Rattle.repair.proofs.Decoding.{code-short, code-refuses, lengths, as-whole}
+use Rattle.repair.proofs.Decoding.{inverted, code-short, code-refuses, lengths, as-whole}
 use Rattle.repair.proofs.repair.Statement.{statement}
 use Rattle.repair.proofs.repair.Tie as tie
 
@@ -44,13 +41,9 @@ repair-whole-requires c κs =
     let B = (eqb (length (a .received .now)) (a .n) && eqb (length (a .repaired .now)) (a .n)) in
     let A = accepted-here B (a .m) (a .n) (a .t) (a .omega) (a .h .now) z in
     let inverses = call .last .1 .1 .1 .1 .1 .1 .0 in
-    let I : Inverted (a .m) (a .h .now) inverses =
-    record {
-      long = omega (arith, code-short A, call .kept .1 .1 .1 .1 .1 .1 .0);
-      are = λ i l.
-          inverses-stored (a .m) (a .n) (a .h .now) inverses _ (call .ensures .1 none) i
-          (subst (λ (k : ℕ). i < k) (sym (n-is B (a .m) (a .n) (a .t) (a .omega) (a .h .now) z)) l);
-    } in
+    let I =
+    inverted (a .m) (a .n) (a .h .now) inverses _ (n-is B (a .m) (a .n) (a .t) (a .omega) (a .h .now) z)
+    (omega (arith, code-short A, n-is B (a .m) (a .n) (a .t) (a .omega) (a .h .now) z, call .kept .1 .1 .1 .1 .1 .1 .0)) (call .ensures .1 none) in
     ((A, I), lengths (a .m) (a .n) (a .t) (a .omega) (a .h .now) (a .received .now) (a .repaired .now) z)
 
 same-length : tie.Need-same-length

@@ -9,7 +9,7 @@ use lib.ListN.{length}
 use borrow.Author.Tests.{eqb-true, not-true, not-false}
 use Rattle.algebra.specs.All.{both-true}
 use Rattle.algebra.specs.Tabulate.{tabulate}
-use Rattle.field.specs.Rules.{_unless_, fault-here, fault-past, fault-first, refuse, accept}
+use Rattle.field.specs.Rules.{_unless_, fault-here, fault-past, fault-first, refuse, accept, fault-empty}
 use Rattle.slices.specs.declared.Outcome.the-variants.{Refused}
 use Rattle.params.specs.Code.{Limits, codeRules}
 use Rattle.params.specs.Answers.{codeFault}
@@ -17,7 +17,7 @@ use Rattle.words.specs.Word.{whole, isWord}
 use Rattle.words.specs.Table.{signatureSum}
 use Rattle.words.specs.Answers.{syndromeFault, syndromeAnswer, syndromeAfter}
 use Rattle.words.proofs.Meaning.{syndrome-is}
-use Rattle.words.proofs.Ending.{code-is, n-is, accepted-here, more-rules, fault-none-left}
+use Rattle.words.proofs.Ending.{code-is, n-is, accepted-here, more-rules}
 use borrow.Author.Needs.{needs}
 use Rattle.words.proofs.syndrome.Statement.{statement}
 use Rattle.words.proofs.syndrome.Tie as tie
@@ -70,7 +70,7 @@ returns-3 c =
     let B = (eqb (length (a .word .now)) (a .n) && eqb (length (a .out .now)) (a .t)) in
     let right = sym (c .before .before .before .before .before .is-word .ensures) ∙ not-false (c .before .before .before .before .before .is-word .result) (c .before .before .before .before .if2 .left) in
     let lent = both-true (eqb (length (a .word .now)) (a .n)) (eqb (length (a .out .now)) (a .t)) (code-is B (a .m) (a .n) (a .t) (a .omega) (a .h .now) z .0) in
-    let f = sym (more-rules B (a .m) (a .n) (a .t) (a .omega) (a .h .now) z ((8 unless isWord (a .word .now)) ∷ []) ∙ fault-past 8 [] right fault-none-left) in
+    let f = sym (more-rules B (a .m) (a .n) (a .t) (a .omega) (a .h .now) z ((8 unless isWord (a .word .now)) ∷ []) ∙ fault-past 8 [] right fault-empty) in
     let value =
     c .before .before .accepted-syndrome .ensures
     ∙ ap₂ (λ (k i : ℕ). tabulate k (signatureSum (a .m) (a .h .now) (whole i) (a .word .now))) (eqb-true (length (a .out .now)) (a .t) (lent .1)) (sym (n-is B (a .m) (a .n) (a .t) (a .omega) (a .h .now) z))

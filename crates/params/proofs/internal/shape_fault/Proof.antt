@@ -6,9 +6,8 @@ use lib.Dec.{eqb}
 use lib.ListN.{length}
 use borrow.Author.Needs.{needs}
 use borrow.Author.Tests.{not-true, not-false}
-use Rattle.field.specs.Rules.{isWidth, fault-here, fault-past, width-is, stranger, element}
+use Rattle.field.specs.Rules.{isWidth, fault-here, fault-past, width-is, stranger, element, fault-none}
 use Rattle.field.proofs.Shift.{shifted-out, shifted-in}
-use Rattle.params.specs.Code.{fault-none}
 use Rattle.params.proofs.Flags.{passed, failed}
 use Rattle.params.proofs.Faults.{width-number, size-number, element-number}
 use Rattle.params.proofs.internal.shape_fault.Statement.{statement}

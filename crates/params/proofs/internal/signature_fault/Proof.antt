@@ -2,8 +2,8 @@
 use mathlib.Core.Path.{sym}
 use native.Mathlib.Omega.{arith}
 use borrow.Author.Needs.{needs}
-use Rattle.field.specs.Rules.{fault-here, fault-past}
-use Rattle.params.specs.Code.{signatureRules, fault-none}
+use Rattle.field.specs.Rules.{fault-here, fault-past, fault-none}
+use Rattle.params.specs.Code.{signatureRules}
 use Rattle.params.proofs.Flags.{passed, failed}
 use Rattle.params.proofs.Inverses.{equal-to-first}
 use Rattle.params.proofs.internal.signature_fault.Statement.{statement}

@@ -1,4 +1,4 @@
-//! Links the product's static library, `target/staticlib/libcapi.a` of the repository around this package.
+//! Links the proved static library, `target/staticlib/libcapi.a` of the repository around this package.
 
 use std::env;
 use std::path::PathBuf;
@@ -15,7 +15,6 @@ fn main() {
         println!("cargo:rustc-link-search=native={}", directory.display());
         println!("cargo:rustc-link-lib=static=capi");
     } else {
-        // The second implementation's own tests (`cargo test --lib`) need no archive.
-        println!("cargo:warning={} is missing: only `cargo test --lib` can link", archive.display());
+        println!("cargo:warning={} is missing; `rt staticlib capi` makes it", archive.display());
     }
 }

@@ -1,0 +1,162 @@
+// 01's cases that are executed: the toy example, which is its card T, and the limits. What this prints is compared with the stored output.
+use field::Elem;
+use io::print_decimal;
+use libc::STDOUT_FILENO;
+use repair::Recovery;
+use slices::Outcome;
+
+// Card T.
+const TOY: [Elem; 16] = [12, 8, 10, 22, 26, 9, 16, 21, 14, 5, 17, 4, 30, 23, 25, 31];
+
+fn print(text: &[u8]) {
+    io::write_all(STDOUT_FILENO, text);
+}
+
+fn print_number(number: u64) {
+    print(b" ");
+    print_decimal(STDOUT_FILENO, number);
+}
+
+fn print_elements(elements: &[Elem]) {
+    for i in 0..elements.len() {
+        print_number(elements[i] as u64);
+    }
+    print(b"\n");
+}
+
+// The places that hold 1.
+fn print_ones(word: &[u8]) {
+    for j in 0..word.len() {
+        if word[j] == 1 {
+            print_number(j as u64);
+        }
+    }
+    print(b"\n");
+}
+
+fn print_outcome(outcome: Outcome) {
+    match outcome {
+        Outcome::Done => print(b" accepted\n"),
+        Outcome::Refused(number) => {
+            print(b" refused by");
+            print_number(number as u64);
+            print(b"\n");
+        }
+    }
+}
+
+fn print_recovery(recovery: Recovery, repaired: &[u8]) {
+    match recovery {
+        Recovery::Repaired(count) => {
+            print(b" repaired bits");
+            print_number(count as u64);
+            print(b", ones at");
+            print_ones(repaired);
+        }
+        Recovery::Refused(number) => print_outcome(Outcome::Refused(number)),
+    }
+}
+
+fn show_toy() {
+    let mut roots: [Elem; 16] = [0; 16];
+    let mut support: [Elem; 16] = [0; 16];
+    let mut roles: [u8; 16] = [0; 16];
+    params::check(5, 16, 2, 24, &TOY, &mut roots, &mut support);
+    words::roles(5, 16, 2, 24, &TOY, &mut roles);
+    print(b"toy example: support");
+    print_elements(&support);
+    print(b"toy example: roots");
+    print_elements(&roots[..2]);
+    print(b"toy example: message columns");
+    print_ones(&roles);
+}
+
+fn show_repair(received: &[u8]) {
+    let mut repaired: [u8; 16] = [0; 16];
+    let recovery = repair::repair(5, 16, 2, 24, &TOY, received, &mut repaired);
+    print_recovery(recovery, &repaired);
+}
+
+fn show_row() {
+    let mut word: [u8; 16] = [0; 16];
+    rows::write_row(5, 16, 2, 24, &TOY, 1, 0, &mut word);
+    print(b"first, dark: ones at");
+    print_ones(&word);
+    let first = word[0];
+    let ninth = word[8];
+    word[0] = 1 - first % 2;
+    word[8] = 1 - ninth % 2;
+    print(b"with 0 and 8 turned:");
+    show_repair(&word);
+    let mut far: [u8; 16] = [0; 16];
+    far[1] = 1;
+    far[2] = 1;
+    far[5] = 1;
+    print(b"ones at 1 2 5 only:");
+    show_repair(&far);
+}
+
+// Whether the width m is accepted.
+fn show_width(m: u32) {
+    let h: [Elem; 2] = [1, 2];
+    let mut roots: [Elem; 2] = [0; 2];
+    let mut support: [Elem; 2] = [0; 2];
+    print(b"m");
+    print_number(m as u64);
+    print(b":");
+    print_outcome(params::check(m, 2, 1, 0, &h, &mut roots, &mut support));
+}
+
+// Whether a length of 3 is accepted, which no signature decides.
+fn show_length_3() {
+    let h: [Elem; 3] = [1; 3];
+    let mut roots: [Elem; 3] = [0; 3];
+    let mut support: [Elem; 3] = [0; 3];
+    print(b"n 3:");
+    print_outcome(params::check(8, 3, 1, 0, &h, &mut roots, &mut support));
+}
+
+// The same for a length of 256.
+fn show_length_256() {
+    let h: [Elem; 256] = [1; 256];
+    let mut roots: [Elem; 256] = [0; 256];
+    let mut support: [Elem; 256] = [0; 256];
+    print(b"n 256:");
+    print_outcome(params::check(8, 256, 1, 0, &h, &mut roots, &mut support));
+}
+
+// Whether card A with t roots is accepted.
+fn show_root_count(t: u32) {
+    let h: [Elem; 4] = [7, 2, 3, 4];
+    let mut roots: [Elem; 4] = [0; 4];
+    let mut support: [Elem; 4] = [0; 4];
+    print(b"n 4, t");
+    print_number(t as u64);
+    print(b":");
+    print_outcome(params::check(3, 4, t, 0, &h, &mut roots, &mut support));
+}
+
+// A code whose only code word is zero: k is 0.
+fn show_empty_message() {
+    let h: [Elem; 2] = [1, 2];
+    let message: [u8; 2] = [0; 2];
+    let mut word: [u8; 2] = [1; 2];
+    print(b"k 0, the empty message:");
+    print_outcome(words::encode(2, 2, 1, 0, &h, &message[..0], &mut word));
+    print(b"its word has ones at");
+    print_ones(&word);
+}
+
+fn main() {
+    show_toy();
+    show_row();
+    show_width(1);
+    show_width(2);
+    show_width(8);
+    show_width(9);
+    show_length_3();
+    show_length_256();
+    show_root_count(2);
+    show_root_count(4);
+    show_empty_message();
+}

@@ -1,0 +1,152 @@
+//! The C interface, as `include/zovunelith.h` declares it.
+//!
+//! Each function takes any values of its numbers. A pointer goes with the number of its elements; what is written
+//! overlaps nothing else, as the borrows of a Rust caller see to.
+
+use crate::{Elem, Refusal};
+
+extern "C" {
+    pub fn zov_field_sum(m: u32, a: u32, b: u32) -> i32;
+    pub fn zov_field_product(m: u32, a: u32, b: u32) -> i32;
+    pub fn zov_field_inverse(m: u32, a: u32) -> i32;
+    pub fn zov_block_sum(
+        m: u32,
+        a: *const Elem,
+        a_length: usize,
+        b: *const Elem,
+        b_length: usize,
+        out: *mut Elem,
+        out_length: usize,
+    ) -> i32;
+    pub fn zov_block_product(
+        m: u32,
+        a: *const Elem,
+        a_length: usize,
+        b: *const Elem,
+        b_length: usize,
+        out: *mut Elem,
+        out_length: usize,
+    ) -> i32;
+    pub fn zov_block_inverse(m: u32, a: *const Elem, a_length: usize, out: *mut Elem, out_length: usize) -> i32;
+    pub fn zov_check(
+        m: u32,
+        n: u32,
+        t: u32,
+        omega: u32,
+        h: *const Elem,
+        h_length: usize,
+        roots: *mut Elem,
+        roots_length: usize,
+        support: *mut Elem,
+        support_length: usize,
+    ) -> i32;
+    pub fn zov_same(
+        m1: u32,
+        n1: u32,
+        t1: u32,
+        omega1: u32,
+        h1: *const Elem,
+        h1_length: usize,
+        m2: u32,
+        n2: u32,
+        t2: u32,
+        omega2: u32,
+        h2: *const Elem,
+        h2_length: usize,
+    ) -> i32;
+    pub fn zov_roles(
+        m: u32,
+        n: u32,
+        t: u32,
+        omega: u32,
+        h: *const Elem,
+        h_length: usize,
+        roles: *mut u8,
+        roles_length: usize,
+    ) -> i32;
+    pub fn zov_syndrome(
+        m: u32,
+        n: u32,
+        t: u32,
+        omega: u32,
+        h: *const Elem,
+        h_length: usize,
+        word: *const u8,
+        word_length: usize,
+        out: *mut Elem,
+        out_length: usize,
+    ) -> i32;
+    pub fn zov_encode(
+        m: u32,
+        n: u32,
+        t: u32,
+        omega: u32,
+        h: *const Elem,
+        h_length: usize,
+        message: *const u8,
+        message_length: usize,
+        word: *mut u8,
+        word_length: usize,
+    ) -> i32;
+    pub fn zov_message(
+        m: u32,
+        n: u32,
+        t: u32,
+        omega: u32,
+        h: *const Elem,
+        h_length: usize,
+        word: *const u8,
+        word_length: usize,
+        message: *mut u8,
+        message_length: usize,
+    ) -> i32;
+    pub fn zov_repair(
+        m: u32,
+        n: u32,
+        t: u32,
+        omega: u32,
+        h: *const Elem,
+        h_length: usize,
+        received: *const u8,
+        received_length: usize,
+        repaired: *mut u8,
+        repaired_length: usize,
+    ) -> i32;
+    pub fn zov_write_row(
+        m: u32,
+        n: u32,
+        t: u32,
+        omega: u32,
+        h: *const Elem,
+        h_length: usize,
+        gear: u32,
+        lamp: u32,
+        word: *mut u8,
+        word_length: usize,
+    ) -> i32;
+    pub fn zov_read_row(
+        m: u32,
+        n: u32,
+        t: u32,
+        omega: u32,
+        h: *const Elem,
+        h_length: usize,
+        received: *const u8,
+        received_length: usize,
+        repaired: *mut u8,
+        repaired_length: usize,
+    ) -> i32;
+    pub fn zov_sheet(text: *const u8, text_length: usize, out: *mut u8, out_length: usize) -> i32;
+}
+
+/// The value that a function returned, or its refusal.
+pub fn answer(returned: i32) -> Result<u32, Refusal> {
+    u32::try_from(returned).map_err(|_| Refusal::of(returned.unsigned_abs()))
+}
+
+/// The same for a function whose value is always 0.
+pub fn done(returned: i32) -> Result<(), Refusal> {
+    let value = answer(returned)?;
+    debug_assert_eq!(value, 0);
+    Ok(())
+}

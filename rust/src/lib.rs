@@ -1,0 +1,43 @@
+//! Coded gear rows: a binary Goppa code in dyadic form for each motorcycle, and repair of what the spark turns.
+//!
+//! The work is done by the proved functions of the static library; this crate gives them safe types. It allocates
+//! nothing and needs no standard library, so that firmware can use it.
+//!
+//! A [`Code`] is a card: any values may stand in it, and each call refuses by a [`Refusal`] what breaks a rule. Buffers
+//! are lent by the caller and are left alone by a call that is refused.
+//!
+//! ```
+//! use zovunelith::{Code, Lamp, Refusal, Row};
+//!
+//! let h = [12, 8, 10, 22, 26, 9, 16, 21, 14, 5, 17, 4, 30, 23, 25, 31];
+//! let code = Code { m: 5, n: 16, t: 2, omega: 24, h: &h };
+//!
+//! let mut word = [0; 16];
+//! code.write_row(Row { gear: 1, lamp: Lamp::Dark }, &mut word)?;
+//! word[0] ^= 1;
+//! word[8] ^= 1;
+//!
+//! let mut repaired = [0; 16];
+//! let reading = code.read_row(&word, &mut repaired)?;
+//! assert_eq!(reading.row, Row { gear: 1, lamp: Lamp::Dark });
+//! assert_eq!(reading.count, 2);
+//! # Ok::<(), Refusal>(())
+//! ```
+
+#![no_std]
+#![warn(missing_docs)]
+
+pub mod block;
+mod c;
+mod code;
+pub mod field;
+mod refusal;
+mod row;
+pub mod sheet;
+
+pub use code::Code;
+pub use refusal::Refusal;
+pub use row::{Lamp, Reading, Row};
+
+/// An element of a field (`zov_elem`).
+pub type Elem = u8;

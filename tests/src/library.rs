@@ -1,0 +1,128 @@
+//! The product, through its Rust crate, with a refusal as its number.
+
+use zovunelith::{Code, Elem, Refusal};
+
+/// m, n, t and ω.
+type Numbers = (u32, u32, u32, u32);
+
+fn code((m, n, t, omega): Numbers, h: &[Elem]) -> Code<'_> {
+    Code { m, n, t, omega, h }
+}
+
+fn numbered<T>(answer: Result<T, Refusal>) -> Result<T, u32> {
+    answer.map_err(Refusal::number)
+}
+
+/// Sum, product and inverse of elements.
+pub mod field {
+    use super::numbered;
+    use zovunelith::field;
+
+    pub fn sum(m: u32, a: u32, b: u32) -> Result<u32, u32> {
+        numbered(field::sum(m, a, b))
+    }
+
+    pub fn product(m: u32, a: u32, b: u32) -> Result<u32, u32> {
+        numbered(field::product(m, a, b))
+    }
+
+    pub fn inverse(m: u32, a: u32) -> Result<u32, u32> {
+        numbered(field::inverse(m, a))
+    }
+}
+
+/// Sum, product and inverse of dyadic blocks.
+pub mod block {
+    use super::numbered;
+    use zovunelith::{block, Elem};
+
+    pub fn sum(m: u32, a: &[Elem], b: &[Elem], out: &mut [Elem]) -> Result<(), u32> {
+        numbered(block::sum(m, a, b, out))
+    }
+
+    pub fn product(m: u32, a: &[Elem], b: &[Elem], out: &mut [Elem]) -> Result<(), u32> {
+        numbered(block::product(m, a, b, out))
+    }
+
+    pub fn inverse(m: u32, a: &[Elem], out: &mut [Elem]) -> Result<(), u32> {
+        numbered(block::inverse(m, a, out))
+    }
+}
+
+/// Checking a code and comparing two.
+pub mod params {
+    use super::{code, numbered, Numbers};
+    use zovunelith::Elem;
+
+    pub fn check(numbers: Numbers, h: &[Elem], roots: &mut [Elem], support: &mut [Elem]) -> Result<(), u32> {
+        numbered(code(numbers, h).check(roots, support))
+    }
+
+    pub fn same(numbers1: Numbers, h1: &[Elem], numbers2: Numbers, h2: &[Elem]) -> Result<bool, u32> {
+        numbered(code(numbers1, h1).same(&code(numbers2, h2)))
+    }
+}
+
+/// Roles, syndrome, encoding and taking the message out.
+pub mod words {
+    use super::{code, numbered, Numbers};
+    use zovunelith::Elem;
+
+    pub fn roles(numbers: Numbers, h: &[Elem], roles: &mut [u8]) -> Result<u32, u32> {
+        numbered(code(numbers, h).roles(roles))
+    }
+
+    pub fn syndrome(numbers: Numbers, h: &[Elem], word: &[u8], out: &mut [Elem]) -> Result<(), u32> {
+        numbered(code(numbers, h).syndrome(word, out))
+    }
+
+    pub fn encode(numbers: Numbers, h: &[Elem], message: &[u8], word: &mut [u8]) -> Result<(), u32> {
+        numbered(code(numbers, h).encode(message, word))
+    }
+
+    pub fn message(numbers: Numbers, h: &[Elem], word: &[u8], message: &mut [u8]) -> Result<(), u32> {
+        numbered(code(numbers, h).message(word, message))
+    }
+}
+
+/// Repair.
+pub mod repair {
+    use super::{code, numbered, Numbers};
+    use zovunelith::Elem;
+
+    pub fn repair(numbers: Numbers, h: &[Elem], received: &[u8], repaired: &mut [u8]) -> Result<u32, u32> {
+        numbered(code(numbers, h).repair(received, repaired))
+    }
+}
+
+/// Writing and reading gear rows.
+pub mod rows {
+    use super::{code, numbered, Numbers};
+    use zovunelith::Elem;
+
+    pub fn write(numbers: Numbers, h: &[Elem], gear: u32, lamp: u32, word: &mut [u8]) -> Result<(), u32> {
+        numbered(code(numbers, h).write_numbers(gear, lamp, word))
+    }
+
+    /// A row that was read: gear, lamp and count of repaired bits.
+    pub fn read(numbers: Numbers, h: &[Elem], received: &[u8], repaired: &mut [u8]) -> Result<(u32, u32, u32), u32> {
+        let reading = numbered(code(numbers, h).read_row(received, repaired))?;
+        Ok((reading.row.gear, reading.row.lamp as u32, reading.count))
+    }
+}
+
+/// The bench sheet.
+pub mod sheet {
+    use super::numbered;
+    use zovunelith::sheet;
+
+    /// The length of the longest listing.
+    pub const LONGEST: usize = sheet::LONGEST_LISTING;
+
+    /// The number for a buffer in which the listing has no room.
+    pub const NO_ROOM: u32 = 2;
+
+    pub fn listing(text: &[u8], out: &mut [u8]) -> Result<usize, u32> {
+        numbered(sheet::listing(text, out))
+    }
+}

@@ -1,0 +1,320 @@
+//! Writing and reading gear rows, against the list of allowed rows.
+
+use zovunelith_tests::canary::Lent;
+use zovunelith_tests::draw;
+use zovunelith_tests::library::rows as library;
+use zovunelith_tests::random::Random;
+use zovunelith_tests::reference::field;
+use zovunelith_tests::reference::params::{code_a, code_t, Params};
+use zovunelith_tests::reference::repair::Decoder;
+use zovunelith_tests::reference::rows::{self as reference, Read, Row};
+use zovunelith_tests::reference::words::Code;
+
+/// Bytes that are no bits.
+const BAD_BYTES: [u8; 6] = [2, 3, 48, 128, 254, 255];
+
+/// Gears and lamps of every kind, among them ones that a cut to fewer bits would bring back in.
+const GEARS: [u32; 14] = [0, 1, 2, 3, 4, 5, 6, 7, 8, 9, 256, 256 + 1, 65536, u32::MAX];
+const LAMPS: [u32; 10] = [0, 1, 2, 3, 4, 8, 256, 256 + 2, 1 << 31, u32::MAX];
+
+fn numbers(params: &Params) -> (u32, u32, u32, u32) {
+    (params.m, params.n, params.t, params.omega)
+}
+
+fn ones_at(n: usize, places: &[usize]) -> Vec<u8> {
+    (0..n).map(|place| u8::from(places.contains(&place))).collect()
+}
+
+/// The word with these places turned.
+fn turned(word: &[u8], places: &[usize]) -> Vec<u8> {
+    let mut word = word.to_vec();
+    places.iter().for_each(|&place| word[place] ^= 1);
+    word
+}
+
+/// A code of this shape.
+fn decoder(random: &mut Random, m: u32, n: u32, t: u32) -> Decoder {
+    Decoder::new(Code::new(&draw::params(random, m, n, t)))
+}
+
+/// Writes a row with canaries around every buffer; answer and buffers are to be those of `expected`.
+#[track_caller]
+fn writing_gives(params: &Params, gear: u32, lamp: u32, word_length: usize, expected: &Result<Vec<u8>, u32>) {
+    let h = Lent::holding(&params.h);
+    let mut word = Lent::marked(word_length);
+    let answer = library::write(numbers(params), h.slice(), gear, lamp, word.slice_mut());
+    let expected_answer = expected.as_ref().map(|_| ()).map_err(|&number| number);
+    assert_eq!(answer, expected_answer, "gear {gear}, lamp {lamp}, {params:?}");
+    h.assert_unchanged();
+    word.assert_holds(expected.as_deref().ok());
+}
+
+/// Reads a row into a buffer with canaries around it; answer and buffers are to be those of `expected`.
+#[track_caller]
+fn reading_gives(params: &Params, received: &[u8], mut repaired: Lent<u8>, expected: &Result<Read, u32>) {
+    let (h, received) = (Lent::holding(&params.h), Lent::holding(received));
+    let answer = library::read(numbers(params), h.slice(), received.slice(), repaired.slice_mut());
+    let told = expected.as_ref().map(|(row, _, count)| (row.gear, row.lamp, *count));
+    assert_eq!(answer, told.map_err(|&number| number), "{params:?}, received {:?}", received.slice());
+    h.assert_unchanged();
+    received.assert_unchanged();
+    repaired.assert_holds(expected.as_ref().ok().map(|read| read.1.as_slice()));
+}
+
+/// Reads a row and compares with the second implementation.
+#[track_caller]
+fn compare(decoder: &Decoder, received: &[u8]) -> Result<Read, u32> {
+    let expected = reference::read_word(decoder, received);
+    reading_gives(&decoder.code.params, received, Lent::marked(received.len()), &expected);
+    expected
+}
+
+#[test]
+fn cases() {
+    let params = code_t();
+    let first_dark = ones_at(16, &[1, 2, 5, 6, 7, 8]);
+    writing_gives(&params, 1, 0, 16, &Ok(first_dark.clone()));
+    let read = (Row { gear: 1, lamp: 0 }, first_dark.clone(), 2);
+    reading_gives(&params, &turned(&first_dark, &[0, 8]), Lent::marked(16), &Ok(read));
+    reading_gives(&params, &ones_at(16, &[1, 2, 5]), Lent::marked(16), &Err(10));
+    // One message column is too narrow for a row.
+    writing_gives(&code_a(), 0, 1, 4, &Err(12));
+    reading_gives(&code_a(), &[1, 0, 1, 1], Lent::marked(4), &Err(12));
+}
+
+/// Every row and many that are none, on code T and on codes of every shape.
+#[test]
+fn rows_and_others_written() {
+    let mut random = Random::new(601);
+    let codes: Vec<Params> = draw::shapes().into_iter().map(|(m, n, t)| draw::params(&mut random, m, n, t)).collect();
+    let mut written = 0;
+    for params in codes.into_iter().chain([code_t()]) {
+        let code = Code::new(&params);
+        for gear in GEARS {
+            for lamp in LAMPS {
+                let expected = if code.k() < 5 {
+                    Err(12)
+                } else if gear <= 6 && (lamp == 0 || lamp == 2 || lamp == 1 && gear == 0) {
+                    written += 1;
+                    Ok(code.encode(&reference::message(Row { gear, lamp }, code.k())))
+                } else {
+                    Err(11)
+                };
+                writing_gives(&params, gear, lamp, code.n(), &expected);
+            }
+        }
+    }
+    assert!(written >= 15 * 10, "only {written} rows were written");
+}
+
+/// Code T: each of the 15 rows with every choice of at most two turned places is read as it was written.
+#[test]
+fn rows_with_every_error_on_the_toy_example() {
+    let decoder = Decoder::new(Code::new(&code_t()));
+    for row in reference::rows() {
+        let word = decoder.code.encode(&reference::message(row, 6));
+        for one in 0..16 {
+            for other in 0..=one {
+                let places = if one == other { vec![one] } else { vec![one, other] };
+                let expected = Ok((row, word.clone(), places.len() as u32));
+                reading_gives(&code_t(), &turned(&word, &places), Lent::marked(16), &expected);
+            }
+        }
+        reading_gives(&code_t(), &word, Lent::marked(16), &Ok((row, word.clone(), 0)));
+    }
+}
+
+/// Code T: every message, row or not, with every number of turned places. A message that is no row is 11.
+#[test]
+fn all_messages_of_the_toy_example() {
+    let mut random = Random::new(602);
+    let decoder = Decoder::new(Code::new(&code_t()));
+    for number in 0..64_u8 {
+        let message: Vec<u8> = (0..6).map(|place| number >> place & 1).collect();
+        let (gear, lamp, further) = (number & 7, number >> 3 & 3, number >> 5);
+        let allowed = gear <= 6 && further == 0 && (lamp == 0 || lamp == 2 || lamp == 1 && gear == 0);
+        let word = decoder.code.encode(&message);
+        for weight in 0..=16 {
+            for _ in 0..4 {
+                let answer = compare(&decoder, &turned(&word, &random.places(16, weight)));
+                if weight <= 2 {
+                    assert_eq!(answer.is_ok(), allowed, "message {message:?}");
+                    assert!(allowed || answer == Err(11), "message {message:?}");
+                }
+            }
+        }
+    }
+}
+
+/// Codes of every shape that are wide enough: rows with every number of turned bits from 0 to n.
+#[test]
+fn rows_of_every_shape() {
+    let mut random = Random::new(603);
+    let mut shapes = 0;
+    for (m, n, t) in draw::shapes() {
+        let decoder = decoder(&mut random, m, n, t);
+        if decoder.code.k() < 5 {
+            continue;
+        }
+        shapes += 1;
+        for row in reference::rows() {
+            let word = decoder.code.encode(&reference::message(row, decoder.code.k()));
+            writing_gives(&decoder.code.params, row.gear, row.lamp, decoder.code.n(), &Ok(word.clone()));
+            for weight in 0..=t as usize {
+                let received = turned(&word, &random.places(decoder.code.n(), weight));
+                assert_eq!(compare(&decoder, &received), Ok((row, word.clone(), weight as u32)));
+            }
+        }
+        for weight in 0..=decoder.code.n() {
+            let row = random.pick(&reference::rows());
+            let word = decoder.code.encode(&reference::message(row, decoder.code.k()));
+            compare(&decoder, &turned(&word, &random.places(decoder.code.n(), weight))).ok();
+        }
+    }
+    assert!(shapes >= 15, "only {shapes} shapes were wide enough");
+}
+
+/// Messages that are no rows: gear 7, lamp 3, green away from neutral, a further bit at each place.
+#[test]
+fn messages_that_are_no_rows() {
+    let mut random = Random::new(604);
+    for (m, n, t) in draw::shapes() {
+        let decoder = decoder(&mut random, m, n, t);
+        let k = decoder.code.k();
+        if k < 5 {
+            continue;
+        }
+        let mut messages = Vec::new();
+        for gear in 0..8 {
+            for lamp in 0..4 {
+                let row = Row { gear, lamp };
+                if !reference::rows().contains(&row) {
+                    messages.push(reference::message(row, k));
+                }
+            }
+        }
+        for place in 5..k {
+            let mut message = reference::message(random.pick(&reference::rows()), k);
+            message[place] = 1;
+            messages.push(message);
+        }
+        assert_eq!(messages.len(), 17 + k - 5);
+        for message in messages {
+            let weight = random.below(t as usize + 1);
+            let received = turned(&decoder.code.encode(&message), &random.places(decoder.code.n(), weight));
+            assert_eq!(compare(&decoder, &received), Err(11), "message {message:?}");
+            for contents in [random.bits(decoder.code.n()), vec![0; decoder.code.n()], received.clone()] {
+                reading_gives(&decoder.code.params, &received, Lent::holding(&contents), &Err(11));
+            }
+        }
+    }
+}
+
+/// A code with fewer than five message columns is 12: before 8, 10 and 11.
+#[test]
+fn narrow_codes() {
+    let mut random = Random::new(605);
+    let mut narrow = 0;
+    for (m, n, t) in draw::shapes() {
+        let code = Code::new(&draw::params(&mut random, m, n, t));
+        if code.k() >= 5 {
+            continue;
+        }
+        narrow += 1;
+        for (gear, lamp) in [(0, 1), (1, 0), (7, 0), (3, 1), (u32::MAX, u32::MAX)] {
+            writing_gives(&code.params, gear, lamp, code.n(), &Err(12));
+        }
+        let word = code.encode(&random.bits(code.k()));
+        let mut no_bits = word.clone();
+        no_bits[random.below(code.n())] = random.pick(&BAD_BYTES);
+        for received in [word, no_bits, random.bits(code.n())] {
+            reading_gives(&code.params, &received, Lent::marked(code.n()), &Err(12));
+        }
+    }
+    assert!(narrow >= 40, "only {narrow} shapes were narrow");
+}
+
+/// Nothing depends on the offset.
+#[test]
+fn every_offset() {
+    let mut random = Random::new(606);
+    for (m, n, t) in [(5, 16, 1), (5, 16, 2), (6, 32, 2), (7, 32, 2), (8, 32, 2)] {
+        let decoder = decoder(&mut random, m, n, t);
+        for row in [Row { gear: 0, lamp: 1 }, Row { gear: 5, lamp: 2 }] {
+            let word = decoder.code.encode(&reference::message(row, decoder.code.k()));
+            for omega in 0..field::size(m) {
+                let params = Params { omega, ..decoder.code.params.clone() };
+                let places = random.places(decoder.code.n(), t as usize);
+                writing_gives(&params, row.gear, row.lamp, decoder.code.n(), &Ok(word.clone()));
+                let expected = Ok((row, word.clone(), t));
+                reading_gives(&params, &turned(&word, &places), Lent::marked(decoder.code.n()), &expected);
+            }
+        }
+    }
+}
+
+/// A buffer's earlier contents have no part in the answer.
+#[test]
+fn buffers_with_other_contents() {
+    let mut random = Random::new(607);
+    let decoder = Decoder::new(Code::new(&code_t()));
+    for row in reference::rows() {
+        let word = decoder.code.encode(&reference::message(row, 6));
+        for weight in [0, 1, 2, 3, 8, 16] {
+            let received = turned(&word, &random.places(16, weight));
+            let expected = reference::read_word(&decoder, &received);
+            for contents in [&random.bits(16), &received, &word, &vec![0; 16], &vec![255; 16]] {
+                reading_gives(&code_t(), &received, Lent::holding(contents), &expected);
+                let mut lent = Lent::holding(contents);
+                let answer = library::write(numbers(&code_t()), &code_t().h, row.gear, row.lamp, lent.slice_mut());
+                assert_eq!(answer, Ok(()));
+                lent.assert_holds(Some(&word));
+            }
+        }
+    }
+}
+
+/// The faults of codes and lengths, narrow codes, bytes that are no bits and rows that are none, together: 1 to 7,
+/// then 12, then 8, then 10, then 11.
+#[test]
+fn faults_together() {
+    let mut random = Random::new(608);
+    for (m, n, t) in draw::shapes() {
+        let mut sets = vec![Vec::new()];
+        sets.extend(draw::singles_and_pairs(m, n));
+        for faults in sets {
+            for choice in 0..8_u32 {
+                let [length, other_length, last] = [0, 1, 2].map(|place| choice >> place & 1 == 1);
+                let params = draw::damaged_code(&mut random, m, n, t, &faults);
+                let narrow = faults.is_empty() && Code::new(&params).k() < 5;
+                let right = n as usize;
+                let wrong = random.pick(&[0, right - 1, right + 1, 2 * right, 256 + right]);
+                let of_code = |length: bool| {
+                    let numbers = faults.iter().map(|fault| fault.number());
+                    numbers.chain(length.then_some(2)).min().or(narrow.then_some(12))
+                };
+
+                // Writing: the last fault is a row that is none.
+                let (gear, lamp) = if last { (random.pick(&[7, 8, 256]), 1) } else { (0, 1) };
+                let lent = if length { wrong } else { right };
+                let expected = reference::write(&params, gear, lamp, lent);
+                let number = of_code(length).or(last.then_some(11));
+                assert_eq!(expected.as_ref().err().copied(), number, "{faults:?}, {choice:03b}: {params:?}");
+                writing_gives(&params, gear, lamp, lent, &expected);
+
+                // Reading: the last fault is a byte that is no bit.
+                let mut received = random.bits(lent);
+                if last && !received.is_empty() {
+                    let place = random.below(received.len());
+                    received[place] = random.pick(&BAD_BYTES);
+                }
+                let lent = if other_length { wrong } else { right };
+                let expected = reference::read(&params, &received, lent);
+                if let Some(number) = of_code(length || other_length).or(last.then_some(8)) {
+                    assert_eq!(expected, Err(number), "{faults:?}, {choice:03b}: {params:?}");
+                }
+                reading_gives(&params, &received, Lent::marked(lent), &expected);
+            }
+        }
+    }
+}
