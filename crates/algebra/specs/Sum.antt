@@ -22,13 +22,13 @@ sum-cong K zero h = refl
 sum-cong K (suc n) h = ap₂ (K .add) (sum-cong K n (λ j l. h j (omega arith))) (h n (omega arith))
 
 -- a number of e bits with the bit above them set, on the left, on the right and on both sides of ⊕
-left-top : (e j d : ℕ) → j < 2 ^ e → d < 2 ^ e → (2 ^ e +ℕ j) ⊕ d ≡ 2 ^ e +ℕ (j ⊕ d)
+pub left-top : (e j d : ℕ) → j < 2 ^ e → d < 2 ^ e → (2 ^ e +ℕ j) ⊕ d ≡ 2 ^ e +ℕ (j ⊕ d)
 left-top e j d lj ld = simp (one-mulℕ, zero-mul, zero-add, ⊕-zero) at (⊕-block e 1 0 j d lj ld)
 
-right-top : (e j d : ℕ) → j < 2 ^ e → d < 2 ^ e → j ⊕ (2 ^ e +ℕ d) ≡ 2 ^ e +ℕ (j ⊕ d)
+pub right-top : (e j d : ℕ) → j < 2 ^ e → d < 2 ^ e → j ⊕ (2 ^ e +ℕ d) ≡ 2 ^ e +ℕ (j ⊕ d)
 right-top e j d lj ld = simp (one-mulℕ, zero-mul, zero-add, zero-⊕) at (⊕-block e 0 1 j d lj ld)
 
-both-top : (e j d : ℕ) → j < 2 ^ e → d < 2 ^ e → (2 ^ e +ℕ j) ⊕ (2 ^ e +ℕ d) ≡ j ⊕ d
+pub both-top : (e j d : ℕ) → j < 2 ^ e → d < 2 ^ e → (2 ^ e +ℕ j) ⊕ (2 ^ e +ℕ d) ≡ j ⊕ d
 both-top e j d lj ld = simp (one-mulℕ, zero-mul, zero-add, ⊕-self) at (⊕-block e 1 1 j d lj ld)
 
 module _ {A : Type 0} (K : Ops A) (F : Laws K) where

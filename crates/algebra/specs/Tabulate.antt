@@ -2,7 +2,7 @@
 use mathlib.Core.Path.{_≡_, refl, sym, ap, ap₂, _∙_, subst}
 use mathlib.Core.List.{List, [], _∷_, _++_, append-assoc, append-nil}
 use Prim.Native.Nat.{ℕ, zero, suc, _+_, _-_, _<_, _≤_}
-use native.Mathlib.Nat.{not-suc-le-zero, le-of-eq}
+use native.Mathlib.Nat.{not-suc-le-zero, le-of-eq, add-zero, add-suc}
 use native.Mathlib.Decide.{decLt}
 use native.Mathlib.Numerals.{add-one}
 use native.Mathlib.Omega.{arith}
@@ -35,6 +35,13 @@ module _ {A : Type 0} where
   tabulate-cong zero h = refl
   tabulate-cong (suc n) h = ap₂ (λ (l : List A) (x : A). l ++ x ∷ []) (tabulate-cong n (λ i l. h i (omega arith))) (h n (omega arith))
 
+  pub tabulate-append : (n k : ℕ) (f : ℕ → A) → tabulate (n + k) f ≡ tabulate n f ++ tabulate k (λ j. f (n + j))
+  unfolding tabulate
+  tabulate-append n zero f = ap (λ (l : ℕ). tabulate l f) (add-zero n) ∙ sym (append-nil (tabulate n f))
+  tabulate-append n (suc k) f =
+      ap (λ (l : ℕ). tabulate l f) (add-suc n k) ∙ ap (λ (l : List A). l ++ f (n + k) ∷ []) (tabulate-append n k f)
+      ∙ append-assoc (tabulate n f) (tabulate k (λ j. f (n + j))) (f (n + k) ∷ [])
+
   pub tabulate-getD : (l : List A) (d : A) → tabulate (length l) (λ i. getD l i d) ≡ l
   tabulate-getD l d =
       ext-getD d (tabulate (length l) (λ i. getD l i d)) l (length-tabulate (length l) (λ i. getD l i d))
@@ -65,6 +72,12 @@ module _ {A : Type 0} where
   pub length-filled : (f : ℕ → A) (i : ℕ) (old : List A) → i ≤ length old → length (filled f i old) ≡ length old
   unfolding filled
   length-filled f i old h = length-append (tabulate i f) (drop i old) ∙ ap₂ (λ (x y : ℕ). x + y) (length-tabulate i f) (length-drop i old) ∙ omega arith
+
+  -- what a loop has stored stands at its place
+  pub getD-stored : (f : ℕ → A) (n : ℕ) (old : List A) (i : ℕ) (d : A) → i < n → getD (filled f n old) i d ≡ f i
+  unfolding filled
+  getD-stored f n old i d h =
+      List·getD-append (tabulate n f) (drop n old) d i (subst (λ (k : ℕ). i < k) (sym (length-tabulate n f)) h) ∙ getD-tabulate n f i d h
 
   -- what is not yet filled is still there
   pub getD-filled : (f : ℕ → A) (i : ℕ) (old : List A) (j : ℕ) (d : A) → i ≤ j → getD (filled f i old) j d ≡ getD old j d

@@ -4,24 +4,14 @@
 use mathlib.Core.Path.{_≡_, sym, ap, ap₂, _∙_}
 use mathlib.Core.Logic.{_≢_}
 use Prim.Native.Nat.{ℕ, zero, suc, _+_ as _+ℕ_, _-_, _^_, _<_}
-use native.Mathlib.Nat.{two-pow-succ, zero-mul, one-mul as one-mulℕ, zero-add}
+use native.Mathlib.Nat.{two-pow-succ}
 use native.Mathlib.Decide.{decLt}
 use native.Mathlib.Omega.{arith}
 use lib.Arith.{lt-one}
 use Rattle.algebra.specs.Field.{Ops, Laws, ring, nought-mul}
-use Rattle.algebra.specs.Sum.{sum, sum-cong, sum-split, sum-reindex}
+use Rattle.algebra.specs.Sum.{sum, sum-cong, sum-split, sum-reindex, left-top, right-top, both-top}
 use Rattle.algebra.specs.Xor.{_⊕_, xor, ⊕-self, zero-⊕, ⊕-zero, ⊕-lt, ⊕-block}
 use Rattle.dyadic.specs.Block.{convolution}
-
--- the bit 2^e on the left, on the right and on both sides of ⊕
-pub left-top : (e j d : ℕ) → j < 2 ^ e → d < 2 ^ e → (2 ^ e +ℕ j) ⊕ d ≡ 2 ^ e +ℕ (j ⊕ d)
-left-top e j d lj ld = simp (one-mulℕ, zero-mul, zero-add, ⊕-zero) at (⊕-block e 1 0 j d lj ld)
-
-pub right-top : (e j d : ℕ) → j < 2 ^ e → d < 2 ^ e → j ⊕ (2 ^ e +ℕ d) ≡ 2 ^ e +ℕ (j ⊕ d)
-right-top e j d lj ld = simp (one-mulℕ, zero-mul, zero-add, zero-⊕) at (⊕-block e 0 1 j d lj ld)
-
-pub both-top : (e j d : ℕ) → j < 2 ^ e → d < 2 ^ e → (2 ^ e +ℕ j) ⊕ (2 ^ e +ℕ d) ≡ j ⊕ d
-both-top e j d lj ld = simp (one-mulℕ, zero-mul, zero-add, ⊕-self) at (⊕-block e 1 1 j d lj ld)
 
 -- f on the upper half
 abbrev pub upper : {A : Type 0} → ℕ → (ℕ → A) → ℕ → A

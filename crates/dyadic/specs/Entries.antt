@@ -1,21 +1,13 @@
 -- The lengths and entries of the signatures that Block defines, and how lists go in halves.
 use mathlib.Core.Path.{_≡_, sym, ap, ap₂, _∙_}
-use mathlib.Core.List.{List, [], _∷_, _++_, append-assoc, append-nil}
-use Prim.Native.Nat.{ℕ, zero, suc, _+_, _^_, _<_}
-use native.Mathlib.Nat.{add-zero, add-suc}
+use mathlib.Core.List.{List, _++_}
+use Prim.Native.Nat.{ℕ, _+_, _^_, _<_}
 use lib.ListN.{length, List·getD-append}
 use lib.Seq.{getD-append-add}
 use Rattle.algebra.specs.Field.{Ops}
 use Rattle.algebra.specs.Tabulate.{tabulate, length-tabulate, getD-tabulate, tabulate-cong}
 use Rattle.dyadic.specs.Block.{entry, blockSum, convolution, blockProduct, total, quotient, blockInverse}
 use Rattle.dyadic.specs.Convolution.{convolution-cong}
-
-pub tabulate-append : {A : Type 0} (n k : ℕ) (f : ℕ → A) → tabulate (n + k) f ≡ tabulate n f ++ tabulate k (λ j. f (n + j))
-unfolding tabulate
-tabulate-append n zero f = ap (λ (l : ℕ). tabulate l f) (add-zero n) ∙ sym (append-nil (tabulate n f))
-tabulate-append n (suc k) f =
-    ap (λ (l : ℕ). tabulate l f) (add-suc n k) ∙ ap (λ (l : List _). l ++ f (n + k) ∷ []) (tabulate-append n k f)
-    ∙ append-assoc (tabulate n f) (tabulate k (λ j. f (n + j))) (f (n + k) ∷ [])
 
 module _ {A : Type 0} (K : Ops A) where
   pub length-sum : (a b : List A) → length (blockSum K a b) ≡ length a

@@ -4,9 +4,9 @@ use mathlib.Core.List.{List, _++_}
 use Prim.Native.Nat.{ℕ, _+_}
 use lib.ListN.{length, length-append}
 use Rattle.algebra.specs.Field.{Ops, Laws}
-use Rattle.algebra.specs.Tabulate.{tabulate, length-tabulate, getD-tabulate, tabulate-cong, tabulate-getD}
+use Rattle.algebra.specs.Tabulate.{tabulate, length-tabulate, getD-tabulate, tabulate-cong, tabulate-getD, tabulate-append}
 use Rattle.dyadic.specs.Block.{entry, blockSum}
-use Rattle.dyadic.specs.Entries.{tabulate-append, length-sum, entry-sum, entry-front, entry-back}
+use Rattle.dyadic.specs.Entries.{length-sum, entry-sum, entry-front, entry-back}
 
 module _ {A : Type 0} (K : Ops A) where
   pub sum-append : (n : ℕ) (a b c d : List A) → length a ≡ n → length c ≡ n → blockSum K (a ++ b) (c ++ d) ≡ blockSum K a c ++ blockSum K b d

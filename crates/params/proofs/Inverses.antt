@@ -6,9 +6,9 @@ use mathlib.Core.List.{List}
 use Prim.Native.Nat.{ℕ, _<_}
 use native.Mathlib.Omega.{arith}
 use lib.Dec.{eqb}
-use lib.ListN.{length, getD, drop, List·getD-append}
+use lib.ListN.{length}
 use Rattle.algebra.specs.All.{all-cong}
-use Rattle.algebra.specs.Tabulate.{tabulate, length-tabulate, getD-tabulate, filled}
+use Rattle.algebra.specs.Tabulate.{filled, getD-stored}
 use Rattle.algebra.specs.Xor.{_⊕_, xor, ⊕-eq}
 use Rattle.field.specs.Gf.{Width, gf, gf-laws}
 use Rattle.slices.specs.Lengths.{isPower}
@@ -16,12 +16,6 @@ use Rattle.slices.specs.Elements.{allElements, elements-are}
 use Rattle.params.specs.Existence.{inv-injective}
 use Rattle.params.specs.Tests.{entryOf, inverseAt, noZero, noZero-is, pairKept, affine, linear, linear-is, EqualToFirst}
 use Rattle.params.proofs.Scan.{index-below}
-
--- what a loop has stored stands at its place
-pub getD-stored : (f : ℕ → ℕ) (n : ℕ) (old : List ℕ) (i : ℕ) → i < n → getD (filled f n old) i 0 ≡ f i
-unfolding filled
-getD-stored f n old i h =
-    List·getD-append (tabulate n f) (drop n old) 0 i (subst (λ (k : ℕ). i < k) (sym (length-tabulate n f)) h) ∙ getD-tabulate n f i 0 h
 
 -- the rule asks for f below n alone
 affine-cong : (n : ℕ) (f g : ℕ → ℕ) → isPower n ≡ true → ((i : ℕ) → i < n → f i ≡ g i) → affine n f ≡ affine n g
@@ -38,7 +32,7 @@ module _ (m : ℕ) (h : List ℕ) (n-power : isPower (length h) ≡ true) where
   rule-tested l old e q =
       q
       ∙ affine-cong (length h) (entryOf l) (inverseAt m h) n-power
-      (λ i li. ap (λ (x : List ℕ). getD x i 0) e ∙ getD-stored (inverseAt m h) (length h) old i li)
+      (λ i li. ap (λ (x : List ℕ). entryOf x i) e ∙ getD-stored (inverseAt m h) (length h) old i 0 li)
 
   -- if h_i = h_j then 1/h_(i⊕j) = 1/h_0
   pub equal-to-first : Width m → allElements m h ≡ true → noZero (length h) h ≡ true → linear m (length h) h ≡ true → EqualToFirst h

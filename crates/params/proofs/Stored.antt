@@ -8,7 +8,7 @@ use lib.Dec.{eqb}
 use lib.ListN.{length}
 use borrow.Author.Tests.{eqb-true}
 use Rattle.algebra.specs.All.{both-true}
-use Rattle.algebra.specs.Tabulate.{tabulate, tabulate-cong, filled}
+use Rattle.algebra.specs.Tabulate.{tabulate, tabulate-cong, filled, getD-stored}
 use Rattle.algebra.specs.Xor.{_⊕_, ⊕-assoc}
 use Rattle.field.specs.Gf.{gf}
 use Rattle.field.specs.Words.{widest}
@@ -18,7 +18,6 @@ use Rattle.params.specs.Existence.{rootAt, supportAt}
 use Rattle.params.specs.Tests.{entryOf, added, inverseAt}
 use Rattle.params.specs.Code.{accepted, power-short}
 use Rattle.params.specs.Answers.{codeFault, checkFault}
-use Rattle.params.proofs.Inverses.{getD-stored}
 
 module _ (m n t ω : ℕ) (h roots support : List ℕ) where
   pub record Checked : Type 0 where
@@ -42,7 +41,7 @@ module _ (m n t ω : ℕ) (h roots support : List ℕ) where
 
 -- the first n of l are the inverses
 pub inverses-stored : (m n : ℕ) (h l old : List ℕ) → l ≡ filled (inverseAt m h) n old → (i : ℕ) → i < n → entryOf l i ≡ inverseAt m h i
-inverses-stored m n h l old stored i li = ap (λ (x : List ℕ). entryOf x i) stored ∙ getD-stored (inverseAt m h) n old i li
+inverses-stored m n h l old stored i li = ap (λ (x : List ℕ). entryOf x i) stored ∙ getD-stored (inverseAt m h) n old i 0 li
 
 module _ (m n ω : ℕ) (h l out : List ℕ) (inverse-is : (i : ℕ) → i < n → entryOf l i ≡ inverseAt m h i) (long : length out ≡ n) where
   pub roots-are : tabulate (length out) (added l ω) ≡ tabulate n (rootAt (gf m) ω (entryOf h))

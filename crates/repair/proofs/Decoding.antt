@@ -24,8 +24,8 @@ use Rattle.params.specs.Acceptance.{accepted-pair}
 use Rattle.params.specs.Answers.{codeFault}
 use Rattle.params.specs.Code.{Accepted, codeRules, power-short}
 use Rattle.params.specs.Existence.{rootAt, supportAt}
-use Rattle.params.specs.Tests.{entryOf, inverseAt}
-use Rattle.params.proofs.Stored.{inverses-stored}
+use Rattle.params.specs.Tests.{entryOf, added, inverseAt}
+use Rattle.params.proofs.Stored.{inverses-stored, roots-are, support-is}
 use Rattle.words.specs.Chosen.{count-tests}
 use Rattle.words.specs.Columns.{count}
 use Rattle.words.specs.Encoding.{IsBits}
@@ -125,7 +125,23 @@ module _ {m n t ω : ℕ} {h cols : List ℕ} (A : Accepted m n t ω h) (C : Sel
       let inside : j < n = subst (λ (k : ℕ). j < k) (ap length e ∙ length-tabulate n L) l in
       subst (λ (x : ℕ). x < 2 ^ m) (sym (support-at e j inside)) (accepted-pair A .L-in j inside)
 
+  -- what the decoder stores: the roots and the support, from the inverses
+  module _ {inverses : List ℕ} (I : Inverted m h inverses) where
+    inverse-at : (i : ℕ) → i < n → entryOf inverses i ≡ inverseAt m h i
+    inverse-at i l = I .are i (subst (λ (k : ℕ). i < k) (sym (A .limits .h-length)) l)
+
+    pub roots-stored : (old : List ℕ) {new : List ℕ} → length old ≡ t → new ≡ tabulate (length old) (added inverses ω) → new ≡ tabulate t z
+    roots-stored old long e = e ∙ roots-are m t ω h inverses old (λ i l. inverse-at i (roots-inside l)) long
+
+    pub support-stored : (old : List ℕ) {new : List ℕ} → length old ≡ n
+        → new ≡ tabulate (length old) (added inverses (added inverses ω 0)) → new ≡ tabulate n L
+    support-stored old long e = e ∙ support-is m n ω h inverses old inverse-at long
+
   module _ (received : List ℕ) where
+    pub syndrome-stored : (old : List ℕ) {new : List ℕ} → length old ≡ t → new ≡ tabulate (length old) (signatureSum m h cols received)
+        → new ≡ tabulate t (signatureSum m h cols received)
+    syndrome-stored old long e = e ∙ ap (λ (k : ℕ). tabulate k (signatureSum m h cols received)) long
+
     syndrome-at : {ss : List ℕ} → ss ≡ tabulate t (signatureSum m h cols received) → (i : ℕ) → i < t
         → entryOf ss i ≡ signatureSum m h cols received i
     syndrome-at e i l = ap (λ (x : List ℕ). entryOf x i) e ∙ getD-tabulate t (signatureSum m h cols received) i 0 l

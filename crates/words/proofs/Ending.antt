@@ -19,7 +19,7 @@ use Rattle.params.specs.Tests.{entryOf}
 use Rattle.words.specs.Word.{whole, isWord}
 use Rattle.words.specs.Columns.{dimension}
 use Rattle.words.specs.Table.{ParityBasis, rowWords, Room}
-use Rattle.words.specs.Answers.{messageLength, messageRules, messageFaultAfter, Ended}
+use Rattle.words.specs.Answers.{messageLength, messageRules, messageFaultAfter, Ended, MessageBasis}
 use Rattle.words.proofs.Meaning.{rank-is-rest, n-short}
 
 pub ended-refused : {k due : ℕ} (old value : List ℕ) → k ≡ due → k ≢ 0 → Ended k due old value old
@@ -105,3 +105,14 @@ module _ (B : Bool) (m n t ω : ℕ) (h : List ℕ) (long : ℕ) (bits : Bool) (
 
     pub message-done : k ≡ 0 → (Done ≡ unless-refused due Refused Done) × (new ≡ unless-refused due (λ i. old) (value n))
     message-done q = (accept Refused Done (here .number) q, here .buffer)
+
+-- ---- what follows `message_basis`
+
+module _ {m t long : ℕ} {h rows leads : List ℕ} {bits : Bool} {number : ℕ} (B : MessageBasis m t h long bits rows leads number) where
+  pub basis-refuses : number ≢ 0 → {ω : ℕ} → Accepted m (length h) t ω h → (old value : List ℕ)
+      → Ended number (messageFaultAfter m (length h) t ω h long bits) old value old
+  basis-refuses ne {ω} A old value = ended-refused old value (B .due ω A) ne
+
+  pub basis-done : number ≡ 0 → {ω : ℕ} → Accepted m (length h) t ω h → (old : List ℕ) {value new : List ℕ} → new ≡ value
+      → Ended number (messageFaultAfter m (length h) t ω h long bits) old value new
+  basis-done z {ω} A old {value} e = record { number = B .due ω A; buffer = e ∙ accept (λ k. old) value (B .due ω A) z }

@@ -1,17 +1,18 @@
 -- What the calls on words answer, and what they leave in the lent buffers, for every input. The places of a word are the columns of the whole code.
 use mathlib.Core.Path.{_≡_}
-use mathlib.Core.Bool.{Bool, _&&_}
+use mathlib.Core.Bool.{Bool, true, _&&_}
 use mathlib.Core.List.{List, [], _∷_, _++_}
-use Prim.Native.Nat.{ℕ}
+use Prim.Native.Nat.{ℕ, _-_}
 use lib.Dec.{eqb}
 use lib.ListN.{length}
 use Rattle.field.specs.Rules.{Rule, _unless_, fault, unless-refused}
 use Rattle.slices.specs.declared.Outcome.{Outcome}
 use Rattle.slices.specs.declared.Outcome.the-variants.{Done, Refused}
-use Rattle.params.specs.Code.{codeRules}
+use Rattle.params.specs.Code.{Accepted, codeRules}
 use Rattle.words.specs.declared.Counted.{Counted}
 use Rattle.words.specs.declared.Counted.the-variants.{Count, Refused as NotCounted}
 use Rattle.words.specs.Word.{whole, isWord, syndromeOf}
+use Rattle.words.specs.Table.{ParityBasis}
 use Rattle.words.specs.Columns.{rolesOf, dimension, messageOf, encodingOf}
 
 module _ (m n t ω : ℕ) (h : List ℕ) where
@@ -72,3 +73,10 @@ module _ (m n t ω : ℕ) (h : List ℕ) where
 pub record Ended (found due : ℕ) (old value new : List ℕ) : Type 0 where
   pub number : found ≡ due
   pub buffer : new ≡ unless-refused due (λ k. old) value
+
+-- a basis of the code, and the number for a message of the given length where `bits` says whether what is read holds bits only
+pub record MessageBasis (m t : ℕ) (h : List ℕ) (long : ℕ) (bits : Bool) (rows leads : List ℕ) (number : ℕ) : Type 0 where
+  pub rank : ℕ
+  pub basis : ParityBasis m t h (whole (length h)) rows leads rank
+  pub due : (ω : ℕ) → Accepted m (length h) t ω h → number ≡ messageFaultAfter m (length h) t ω h long bits
+  pub fits : number ≡ 0 → (long ≡ length h - rank) × (bits ≡ true)

@@ -18,8 +18,8 @@ ghost use Rattle.algebra.specs.Tabulate.{tabulate};
 ghost use Rattle.params.specs.Code.{Limits, Accepted};
 ghost use Rattle.words.specs.Word.{whole, isWord};
 ghost use Rattle.words.specs.Columns.{rolesOf, messageOf, encodingOf};
-ghost use Rattle.words.specs.Table.{signatureSum};
-ghost use Rattle.words.specs.Answers.{messageLength, messageFaultAfter, Ended, rolesAnswer, rolesAfter, syndromeAnswer, syndromeAfter, encodeAnswer, encodeAfter, messageAnswer, messageAfter};
+ghost use Rattle.words.specs.Table.{Room, signatureSum};
+ghost use Rattle.words.specs.Answers.{messageLength, messageFaultAfter, Ended, MessageBasis, rolesAnswer, rolesAfter, syndromeAnswer, syndromeAfter, encodeAnswer, encodeAfter, messageAnswer, messageAfter};
 
 // The number of a column of the code.
 pub type Column = u16;
@@ -127,22 +127,18 @@ fn accepted_roles(m: u32, t: usize, h: &[Elem], out: &mut [u8]) -> u32
     (h.len() - rank) as u32
 }
 
-// 2 for a message of another length than k, 8 for one that holds something else than bits, and 0 for one that is encoded.
+// The code word that carries the message, or what refuses the message: 2 or 8, and 0 if nothing does.
 fn accepted_encode(m: u32, t: usize, h: &[Elem], message: &[u8], word: &mut [u8]) -> u32
     requires { ⌜ Limits m (length (now h)) t (now h) × (length (now word) ≡ length (now h)) ⌝ }
     ensures { λ r. ⌜ ((ω : ℕ) → Accepted m (length (now (h .entry))) t ω (now (h .entry)) → Ended r (messageFaultAfter m (length (now (h .entry))) t ω (now (h .entry)) (length (now (message .entry))) (isWord (now (message .entry)))) (now (word .entry)) (encodingOf m t ω (now (h .entry)) (whole (length (now (h .entry)))) (now (message .entry))) (now (word .exit))) ⌝ }
 {
     let mut rows: [u64; LONGEST * packed::ROW] = [0; LONGEST * packed::ROW];
     let mut leads: [u8; LONGEST] = [0; LONGEST];
-    let rank = internal::whole_basis(m, t, h, &mut rows, &mut leads);
-    if message.len() != h.len() - rank {
-        return 2;
+    let number = message_basis(m, t, h, message.len(), message, &mut rows, &mut leads);
+    if number == 0 {
+        systematic::carry(message, &rows, &leads, word);
     }
-    if !internal::is_word(message) {
-        return 8;
-    }
-    systematic::carry(message, &rows, &leads, word);
-    0
+    number
 }
 
 // The same for taking a message out.
@@ -152,14 +148,33 @@ fn accepted_message(m: u32, t: usize, h: &[Elem], word: &[u8], message: &mut [u8
 {
     let mut rows: [u64; LONGEST * packed::ROW] = [0; LONGEST * packed::ROW];
     let mut leads: [u8; LONGEST] = [0; LONGEST];
-    let rank = internal::whole_basis(m, t, h, &mut rows, &mut leads);
-    if message.len() != h.len() - rank {
+    let number = message_basis(m, t, h, message.len(), word, &mut rows, &mut leads);
+    if number == 0 {
+        systematic::take_out(word, &leads, message);
+    }
+    number
+}
+
+// The code's basis, and the number for a message of the given length: 2 if it is not k, 8 if `read` holds something else than bits, and else 0.
+fn message_basis(
+    m: u32,
+    t: usize,
+    h: &[Elem],
+    long: usize,
+    read: &[u8],
+    rows: &mut [u64],
+    leads: &mut [u8],
+) -> u32
+    requires { ⌜ Limits m (length (now h)) t (now h) × Room (length (now h)) (now rows) (now leads) ⌝ }
+    ensures { λ r. ⌜ MessageBasis m t (now (h .entry)) long (isWord (now (read .entry))) (now (rows .exit)) (now (leads .exit)) r ⌝ }
+{
+    let rank = internal::whole_basis(m, t, h, rows, leads);
+    if long != h.len() - rank {
         return 2;
     }
-    if !internal::is_word(word) {
+    if !internal::is_word(read) {
         return 8;
     }
-    systematic::take_out(word, &leads, message);
     0
 }
 

@@ -1,15 +1,13 @@
 -- `decoder::find_candidate` meets its contract: the roots, the support and the syndrome are those of the code, and the places turned are the roots of
 -- the pair that the pass leaves.
-use mathlib.Core.Path.{_≡_, refl, sym, ap, _∙_, subst}
+use mathlib.Core.Path.{refl, sym, ap, _∙_, subst}
 use Prim.Native.Nat.{ℕ, _<_}
 use native.Mathlib.Omega.{arith}
 use lib.ListN.{length}
-use Rattle.algebra.specs.Tabulate.{tabulate, length-tabulate}
-use Rattle.params.proofs.Stored.{roots-are, support-is}
+use Rattle.algebra.specs.Tabulate.{length-tabulate}
 use Rattle.params.specs.Tests.{entryOf}
-use Rattle.words.specs.Table.{signatureSum}
 use Rattle.words.proofs.Ending.{bits-anywhere}
-use Rattle.repair.proofs.Decoding.{roots-inside, reaches-selected, root-points, support-in, syndrome-fits, candidate-found}
+use Rattle.repair.proofs.Decoding.{reaches-selected, root-points, support-in, roots-stored, support-stored, syndrome-stored, syndrome-fits, candidate-found}
 use borrow.Author.Needs.{needs}
 use Rattle.repair.proofs.decoder.find_candidate.Statement.{statement}
 use Rattle.repair.proofs.decoder.find_candidate.Tie as tie
@@ -48,8 +46,8 @@ locate-requires c κs =
     let I = s .pre .0 .1 in
     let C = s .pre .0 .2 .selected in
     let stored = c .before .before .before .before .before .before .before .before .before .before .before .before .store .ensures in
-    let er = stored .0 ∙ roots-are (a .m) (length (a .roots .now)) (a .omega) (a .h .now) (a .inverses .now) (a .roots .now) (λ i l. I .are i (roots-inside A C l)) refl in
-    let es = c .before .before .before .before .before .before .syndrome .ensures ∙ ap (λ (k : ℕ). tabulate k (signatureSum (a .m) (a .h .now) (a .cols .now) (a .received .now))) (s .pre .1 .0 .1) in
+    let er = roots-stored A C I (a .roots .now) refl (stored .0) in
+    let es = syndrome-stored A C (a .received .now) (a .syndrome .now) (s .pre .1 .0 .1) (c .before .before .before .before .before .before .syndrome .ensures) in
     ((A .limits .width, root-points A C er, syndrome-fits A C (a .received .now) er es), (refl, refl))
 
 slice-aggregate-turn-roots : tie.Need-slice-aggregate-turn-roots
@@ -66,12 +64,12 @@ turn-roots-requires c κs =
     let I = s .pre .0 .1 in
     let C = s .pre .0 .2 .selected in
     let stored = c .before .before .before .before .before .before .before .before .before .before .before .before .before .before .before .before .before .before .before .store .ensures in
-    let er = stored .0 ∙ roots-are (a .m) (length (a .roots .now)) (a .omega) (a .h .now) (a .inverses .now) (a .roots .now) (λ i l. I .are i (roots-inside A C l)) refl in
-    let el = stored .1 ∙ support-is (a .m) (length (a .h .now)) (a .omega) (a .h .now) (a .inverses .now) (a .support .now) (I .are) (s .pre .1 .0 .0) in
-    let located = c .before .before .before .before .before .before .locate .ensures in
-    let few = syndrome-fits A C (a .received .now) er (c .before .before .before .before .before .before .before .before .before .before .before .before .before .syndrome .ensures ∙ ap (λ (k : ℕ). tabulate k (signatureSum (a .m) (a .h .now) (a .cols .now) (a .received .now))) (s .pre .1 .0 .1)) .few in (
-      (A .limits .width, located .pair, omega (arith, few), support-in A C el),
-      (λ j l. subst (λ (k : ℕ). entryOf (a .cols .now) j < k) (sym (ap length el ∙ length-tabulate (length (a .h .now)) _)) (C .inside j l), s .pre .1 .1 .0, s .pre .1 .0 .2),
+    let er = roots-stored A C I (a .roots .now) refl (stored .0) in
+    let el = support-stored A C I (a .support .now) (s .pre .1 .0 .0) (stored .1) in
+    let es = syndrome-stored A C (a .received .now) (a .syndrome .now) (s .pre .1 .0 .1) (c .before .before .before .before .before .before .before .before .before .before .before .before .before .syndrome .ensures) in
+    let long = ap length el ∙ length-tabulate (length (a .h .now)) _ in (
+      (A .limits .width, c .before .before .before .before .before .before .locate .ensures .pair, omega (arith, syndrome-fits A C (a .received .now) er es .few), support-in A C el),
+      (λ j l. subst (λ (k : ℕ). entryOf (a .cols .now) j < k) (sym long) (C .inside j l), s .pre .1 .1 .0, s .pre .1 .0 .2),
     )
 
 same-length : tie.Need-same-length
@@ -94,11 +92,11 @@ returns c =
     let I = s .pre .0 .1 in
     let C = s .pre .0 .2 .selected in
     let stored = c .before .before .before .before .before .before .before .before .before .before .before .before .before .before .before .before .before .before .before .before .before .before .store .ensures in
-    let er = stored .0 ∙ roots-are (a .m) (length (a .roots .now)) (a .omega) (a .h .now) (a .inverses .now) (a .roots .now) (λ i l. I .are i (roots-inside A C l)) refl in
-    let el = stored .1 ∙ support-is (a .m) (length (a .h .now)) (a .omega) (a .h .now) (a .inverses .now) (a .support .now) (I .are) (s .pre .1 .0 .0) in
-    let es = c .before .before .before .before .before .before .before .before .before .before .before .before .before .before .before .before .syndrome .ensures ∙ ap (λ (k : ℕ). tabulate k (signatureSum (a .m) (a .h .now) (a .cols .now) (a .received .now))) (s .pre .1 .0 .1) in
-    let turned-places = c .before .before .turn-roots .ensures in
-    candidate-found A C (a .received .now) er el es (c .before .before .before .before .before .before .before .before .before .locate .ensures) (turned-places .0) (turned-places .1)
+    let er = roots-stored A C I (a .roots .now) refl (stored .0) in
+    let el = support-stored A C I (a .support .now) (s .pre .1 .0 .0) (stored .1) in
+    let es = syndrome-stored A C (a .received .now) (a .syndrome .now) (s .pre .1 .0 .1) (c .before .before .before .before .before .before .before .before .before .before .before .before .before .before .before .before .syndrome .ensures) in
+    let places = c .before .before .turn-roots .ensures in
+    candidate-found A C (a .received .now) er el es (c .before .before .before .before .before .before .before .before .before .locate .ensures) (places .0) (places .1)
 
 pub find-candidate-spec : {M : Type 1} → statement M
 find-candidate-spec =

@@ -1,0 +1,325 @@
+//! The time of each public call, and of a rival that is not proved, in one run.
+//!
+//!     cargo run --release --offline --manifest-path bench/Cargo.toml                    times, as ratios
+//!     cargo run --release --offline --manifest-path bench/Cargo.toml instructions       instruction counts (needs valgrind)
+
+mod rival;
+
+use std::env;
+use std::hint::black_box;
+use std::process::{exit, Command};
+use std::time::Instant;
+use zovunelith::{block, field, sheet, Code, Lamp, Row};
+
+/// m, n and t.
+const SHAPES: [(u32, u32, u32); 4] = [(5, 16, 2), (8, 64, 4), (8, 128, 8), (8, 128, 64)];
+
+const CALLS: [&str; 16] = [
+    "field sum",
+    "field product",
+    "field inverse",
+    "block sum",
+    "block product",
+    "block inverse",
+    "check",
+    "same",
+    "roles",
+    "syndrome",
+    "encode",
+    "message",
+    "repair",
+    "write row",
+    "read row",
+    "sheet",
+];
+
+const FIRST_DARK: Row = Row { gear: 1, lamp: Lamp::Dark };
+
+/// Numbers that look random, the same in each run.
+struct Random(u64);
+
+impl Random {
+    fn below(&mut self, bound: usize) -> usize {
+        self.0 = self.0.wrapping_mul(6364136223846793005).wrapping_add(1442695040888963407);
+        (self.0 >> 33) as usize % bound
+    }
+}
+
+/// A signature that is accepted: 1/h_i is i's image under a linear map of full rank, plus an element outside of it.
+fn signature(random: &mut Random, m: u32, n: u32) -> Vec<u8> {
+    let mut span = vec![0_u32];
+    let outside = |random: &mut Random, span: &[u32]| loop {
+        let element = random.below(1 << m) as u32;
+        if !span.contains(&element) {
+            return element;
+        }
+    };
+    while span.len() < n as usize {
+        let element = outside(random, &span);
+        let shifted: Vec<u32> = span.iter().map(|&other| other ^ element).collect();
+        span.extend(shifted);
+    }
+    let offset = outside(random, &span);
+    span.iter().map(|&element| field::inverse(m, element ^ offset).expect("not zero") as u8).collect()
+}
+
+/// Has the value computed.
+fn keep<T>(value: T) {
+    black_box(value);
+}
+
+/// What the calls are given at a shape: a code, a message, its word, and the word with t places turned.
+struct Inputs {
+    m: u32,
+    n: usize,
+    t: usize,
+    omega: u32,
+    h: Vec<u8>,
+    k: usize,
+    message: Vec<u8>,
+    word: Vec<u8>,
+    received: Vec<u8>,
+    /// A row's word with t places turned, for codes with room for rows.
+    row_received: Option<Vec<u8>>,
+    text: Vec<u8>,
+    field: rival::Field,
+}
+
+impl Inputs {
+    fn new((m, n, t): (u32, u32, u32)) -> Inputs {
+        let mut random = Random(u64::from(m * 1000 + n + t));
+        let h = signature(&mut random, m, n);
+        let omega = random.below(1 << m) as u32;
+        let code = Code { m, n, t, omega, h: &h };
+        let k = code.roles(&mut vec![0; n as usize]).expect("an accepted code") as usize;
+        let message: Vec<u8> = (0..k).map(|_| random.below(2) as u8).collect();
+        let mut word = vec![0; n as usize];
+        code.encode(&message, &mut word).expect("a message");
+        let mut places: Vec<usize> = (0..n as usize).collect();
+        (0..t as usize).for_each(|place| places.swap(place, place + random.below(n as usize - place)));
+        let turned = |word: &[u8]| {
+            let mut word = word.to_vec();
+            places[..t as usize].iter().for_each(|&place| word[place] ^= 1);
+            word
+        };
+        let mut row = vec![0; n as usize];
+        let row_received = code.write_row(FIRST_DARK, &mut row).ok().map(|()| turned(&row));
+        let line = |numbers: &[u32]| numbers.iter().map(|number| format!("{number:>4}")).collect::<String>() + "\n";
+        let entries: Vec<u32> = h.iter().map(|&entry| entry.into()).collect();
+        let text = (line(&[m, n, t, omega]) + &line(&entries)).into_bytes();
+        let received = turned(&word);
+        let field = rival::Field::new(m);
+        Inputs { m, n: n as usize, t: t as usize, omega, h, k, message, word, received, row_received, text, field }
+    }
+
+    fn code(&self) -> Code<'_> {
+        Code { m: self.m, n: self.n as u32, t: self.t as u32, omega: self.omega, h: &self.h }
+    }
+
+    fn rival(&self) -> rival::Code<'_> {
+        rival::Code { field: &self.field, t: self.t, omega: self.omega as u8, h: &self.h }
+    }
+
+    /// The product's call, to be made again and again; none where the shape has no such call.
+    fn product_call(&self, call: &str) -> Option<Box<dyn FnMut() + '_>> {
+        let code = self.code();
+        let (m, n, a, b) = (self.m, self.n, u32::from(self.h[0]), u32::from(self.h[1]));
+        let (mut out, mut second) = (vec![0; n], vec![0; n]);
+        Some(match call {
+            "field sum" => Box::new(move || keep(field::sum(black_box(m), a, b))),
+            "field product" => Box::new(move || keep(field::product(black_box(m), a, b))),
+            "field inverse" => Box::new(move || keep(field::inverse(black_box(m), a))),
+            "block sum" => Box::new(move || block::sum(m, &self.h, &self.h, &mut out).expect("blocks")),
+            "block product" => Box::new(move || block::product(m, &self.h, &self.h, &mut out).expect("blocks")),
+            // The matrix of an accepted signature is a Cauchy matrix, which has an inverse.
+            "block inverse" => Box::new(move || block::inverse(m, &self.h, &mut out).expect("an inverse")),
+            "check" => Box::new(move || code.check(&mut out, &mut second).expect("accepted")),
+            "same" => Box::new(move || keep(code.same(&code).expect("accepted"))),
+            "roles" => Box::new(move || keep(code.roles(&mut out).expect("accepted"))),
+            "syndrome" => Box::new(move || code.syndrome(&self.received, &mut out[..self.t]).expect("a word")),
+            "encode" => Box::new(move || code.encode(&self.message, &mut out).expect("a message")),
+            "message" => Box::new(move || code.message(&self.word, &mut out[..self.k]).expect("a word")),
+            "repair" => Box::new(move || keep(code.repair(&self.received, &mut out).expect("t places"))),
+            "write row" => {
+                self.row_received.as_deref()?;
+                Box::new(move || code.write_row(FIRST_DARK, &mut out).expect("a row"))
+            }
+            "read row" => {
+                let received = self.row_received.as_deref()?;
+                Box::new(move || keep(code.read_row(received, &mut out).expect("t places")))
+            }
+            "sheet" => {
+                let mut listing = vec![0; sheet::LONGEST_LISTING];
+                Box::new(move || keep(sheet::listing(&self.text, &mut listing).expect("a sheet")))
+            }
+            _ => unreachable!("{call} is no call"),
+        })
+    }
+
+    /// The rival's call for the same.
+    fn rival_call(&self, call: &str) -> Option<Box<dyn FnMut() + '_>> {
+        let code = self.rival();
+        let (n, a, b) = (self.n, self.h[0], self.h[1]);
+        let mut out = vec![0; n];
+        Some(match call {
+            "field sum" => Box::new(move || keep(black_box(a) ^ b)),
+            "field product" => Box::new(move || keep(self.field.product(black_box(a), b))),
+            "field inverse" => Box::new(move || keep(self.field.inverse(black_box(a)))),
+            "block sum" => Box::new(move || {
+                out.iter_mut().zip(&self.h).for_each(|(sum, &entry)| *sum = entry ^ black_box(entry));
+            }),
+            "block product" => Box::new(move || rival::block_product(&self.field, &self.h, &self.h, &mut out)),
+            "block inverse" => Box::new(move || keep(rival::block_inverse(&self.field, &self.h, &mut out))),
+            "check" => Box::new(move || keep(code.check().expect("accepted"))),
+            "same" => Box::new(move || {
+                black_box((code.check(), code.check()));
+                black_box(code.h == self.h);
+            }),
+            "roles" => Box::new(move || {
+                black_box(code.check());
+                black_box(code.roles(&mut out));
+            }),
+            "syndrome" => Box::new(move || {
+                black_box(code.check());
+                code.syndrome(&self.received, &mut out[..self.t]);
+            }),
+            "encode" => Box::new(move || {
+                black_box(code.check());
+                code.encode(&self.message, &mut out);
+            }),
+            "message" => Box::new(move || {
+                black_box(code.check());
+                code.message(&self.word, &mut out[..self.k]);
+            }),
+            "repair" => Box::new(move || {
+                let inverses = code.check().expect("accepted");
+                black_box(code.repair(&inverses, &self.received, &mut out).expect("t places"));
+            }),
+            "write row" => {
+                self.row_received.as_deref()?;
+                Box::new(move || {
+                    black_box(code.check());
+                    code.write_row(1, 0, &mut out);
+                })
+            }
+            "read row" => {
+                let received = self.row_received.as_deref()?;
+                Box::new(move || {
+                    let inverses = code.check().expect("accepted");
+                    black_box(code.read_row(&inverses, received, &mut out).expect("t places"));
+                })
+            }
+            "sheet" => Box::new(move || keep(rival_listing(&self.field, &self.text))),
+            _ => unreachable!("{call} is no call"),
+        })
+    }
+}
+
+/// The listing by the standard library's parsing and printing.
+fn rival_listing(field: &rival::Field, text: &[u8]) -> String {
+    let text = std::str::from_utf8(text).expect("plain text");
+    let numbers: Vec<u32> = text.split_whitespace().map(|number| number.parse().expect("a number")).collect();
+    let (first, h) = numbers.split_at(4);
+    let h: Vec<u8> = h.iter().map(|&entry| entry as u8).collect();
+    let code = rival::Code { field, t: first[2] as usize, omega: first[3] as u8, h: &h };
+    let inverses = code.check().expect("accepted");
+    let mut roles = vec![0; h.len()];
+    let k = code.roles(&mut roles);
+    let line = |numbers: &[u32]| numbers.iter().map(|number| format!("{number:>4}")).collect::<String>() + "\n";
+    let mut listing = line(&[first[0], first[1], first[2], first[3], first[1] - k, k]);
+    for j in 0..h.len() {
+        let support = inverses[j] ^ inverses[0] ^ code.omega;
+        listing += &line(&[j as u32, h[j].into(), support.into(), roles[j].into()]);
+    }
+    listing
+}
+
+/// Nanoseconds a call: the quickest of nine series of about ten milliseconds each.
+fn time(call: &mut dyn FnMut()) -> f64 {
+    let mut repeats = 1_u32;
+    let series = |call: &mut dyn FnMut(), repeats: u32| {
+        let start = Instant::now();
+        (0..repeats).for_each(|_| call());
+        start.elapsed().as_secs_f64()
+    };
+    while series(call, repeats) < 0.01 {
+        repeats *= 2;
+    }
+    let quickest = (0..9).map(|_| series(call, repeats)).fold(f64::INFINITY, f64::min);
+    quickest * 1e9 / f64::from(repeats)
+}
+
+fn times() {
+    println!("| call | m, n, t | product, ns | rival, ns | ratio |");
+    println!("|---|---|---|---|---|");
+    for shape in SHAPES {
+        let inputs = Inputs::new(shape);
+        for call in CALLS {
+            let (Some(mut product), Some(mut rival)) = (inputs.product_call(call), inputs.rival_call(call)) else {
+                continue;
+            };
+            let (product, rival) = (time(&mut product), time(&mut rival));
+            let (m, n, t) = shape;
+            println!("| {call} | {m}, {n}, {t} | {product:.0} | {rival:.0} | {:.2} |", product / rival);
+        }
+    }
+}
+
+/// What callgrind counts.
+#[inline(never)]
+#[no_mangle]
+fn zov_bench_counted(call: &mut dyn FnMut()) {
+    call();
+}
+
+/// Makes one call, of the product or of the rival, under `zov_bench_counted`.
+fn once(side: &str, call: &str, shape: usize) {
+    let inputs = Inputs::new(SHAPES[shape]);
+    let made = if side == "product" { inputs.product_call(call) } else { inputs.rival_call(call) };
+    if let Some(mut made) = made {
+        zov_bench_counted(&mut made);
+    }
+}
+
+fn count(side: &str, call: &str, shape: usize) -> Option<u64> {
+    let itself = env::current_exe().expect("this program has a path");
+    let output = Command::new("valgrind")
+        .args(["--tool=callgrind", "--callgrind-out-file=/dev/null", "--toggle-collect=zov_bench_counted"])
+        .arg(itself)
+        .args(["once", side, call, &shape.to_string()])
+        .output();
+    let Ok(output) = output else {
+        eprintln!("stopped: instruction counts need valgrind");
+        exit(1);
+    };
+    let report = String::from_utf8_lossy(&output.stderr).into_owned();
+    report.lines().find_map(|line| line.split("Collected :").nth(1)).and_then(|number| number.trim().parse().ok())
+}
+
+fn instructions() {
+    println!("| call | m, n, t | product | rival | ratio |");
+    println!("|---|---|---|---|---|");
+    for (index, (m, n, t)) in SHAPES.into_iter().enumerate() {
+        for call in CALLS {
+            if let (Some(product), Some(rival)) = (count("product", call, index), count("rival", call, index)) {
+                if product > 0 {
+                    println!("| {call} | {m}, {n}, {t} | {product} | {rival} | {:.2} |", product as f64 / rival as f64);
+                }
+            }
+        }
+    }
+}
+
+fn main() {
+    let arguments: Vec<String> = env::args().skip(1).collect();
+    let arguments: Vec<&str> = arguments.iter().map(String::as_str).collect();
+    match arguments[..] {
+        [] => times(),
+        ["instructions"] => instructions(),
+        ["once", side, call, shape] => once(side, call, shape.parse().expect("the index of a shape")),
+        _ => {
+            eprintln!("usage: zovunelith-bench [instructions]");
+            exit(2);
+        }
+    }
+}

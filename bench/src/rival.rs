@@ -1,0 +1,273 @@
+//! An unproved implementation for comparison: products by tables of logarithms, rows of the parity check matrix in one
+//! u128 each, and the same pass for repair. It makes the same tests as the product's calls.
+
+/// The field of 2^m elements by its logarithms.
+pub struct Field {
+    m: u32,
+    exp: [u8; 512],
+    log: [u16; 256],
+}
+
+const WORDS: [u32; 9] = [0, 0, 0x7, 0xB, 0x13, 0x25, 0x43, 0x83, 0x11D];
+
+impl Field {
+    pub fn new(m: u32) -> Field {
+        let word = WORDS[m as usize];
+        let size = 1_u32 << m;
+        let times = |a: u32, b: u32| {
+            let (mut product, mut shifted) = (0, a);
+            for bit in 0..m {
+                if b >> bit & 1 == 1 {
+                    product ^= shifted;
+                }
+                shifted <<= 1;
+                if shifted & size != 0 {
+                    shifted ^= word;
+                }
+            }
+            product
+        };
+        // The first element whose powers are all nonzero elements.
+        let generator = (2..size)
+            .find(|&g| {
+                let (mut power, mut order) = (g, 1);
+                while power != 1 {
+                    power = times(power, g);
+                    order += 1;
+                }
+                order == size - 1
+            })
+            .expect("a field has a generator");
+        let mut field = Field { m, exp: [0; 512], log: [0; 256] };
+        let mut power = 1;
+        for e in 0..size - 1 {
+            field.exp[e as usize] = power as u8;
+            field.exp[(e + size - 1) as usize] = power as u8;
+            field.log[power as usize] = e as u16;
+            power = times(power, generator);
+        }
+        field
+    }
+
+    #[inline]
+    pub fn product(&self, a: u8, b: u8) -> u8 {
+        if a == 0 || b == 0 {
+            return 0;
+        }
+        self.exp[(self.log[a as usize] + self.log[b as usize]) as usize]
+    }
+
+    #[inline]
+    pub fn inverse(&self, a: u8) -> u8 {
+        self.exp[((1 << self.m) - 1 - self.log[a as usize] as u32) as usize]
+    }
+}
+
+/// The product of two blocks, by the definition of the matrix product's first row.
+pub fn block_product(field: &Field, a: &[u8], b: &[u8], out: &mut [u8]) {
+    for (i, entry) in out.iter_mut().enumerate() {
+        *entry = (0..a.len()).fold(0, |sum, k| sum ^ field.product(a[k], b[i ^ k]));
+    }
+}
+
+/// The inverse of a block; none where its elements sum to zero.
+pub fn block_inverse(field: &Field, a: &[u8], out: &mut [u8]) -> bool {
+    let sum = a.iter().fold(0, |sum, &entry| sum ^ entry);
+    if sum == 0 {
+        return false;
+    }
+    let scale = field.inverse(field.product(sum, sum));
+    for (entry, &old) in out.iter_mut().zip(a) {
+        *entry = field.product(old, scale);
+    }
+    true
+}
+
+/// A code that is checked anew by each call, as the product's calls do.
+pub struct Code<'a> {
+    pub field: &'a Field,
+    pub t: usize,
+    pub omega: u8,
+    pub h: &'a [u8],
+}
+
+/// The rows of the basis by their leading places.
+type Basis = [u128; 128];
+
+impl Code<'_> {
+    /// The inverses of the signature, if it is accepted.
+    pub fn check(&self) -> Option<[u8; 128]> {
+        let n = self.h.len();
+        if !n.is_power_of_two() || !self.t.is_power_of_two() || self.t > n / 2 {
+            return None;
+        }
+        if self.h.iter().any(|&entry| entry == 0 || u32::from(entry) >> self.field.m != 0) {
+            return None;
+        }
+        let mut inverses = [0; 128];
+        for (inverse, &entry) in inverses.iter_mut().zip(self.h) {
+            *inverse = self.field.inverse(entry);
+        }
+        for i in 0..n {
+            for j in 0..n {
+                if inverses[i ^ j] != inverses[i] ^ inverses[j] ^ inverses[0] {
+                    return None;
+                }
+            }
+        }
+        let distinct = (1..n).all(|i| self.h[i] != self.h[0]);
+        distinct.then_some(inverses)
+    }
+
+    pub fn syndrome(&self, word: &[u8], out: &mut [u8]) {
+        for (i, row) in out.iter_mut().enumerate() {
+            *row = (0..word.len()).fold(0, |sum, j| if word[j] == 1 { sum ^ self.h[i ^ j] } else { sum });
+        }
+    }
+
+    /// An echelon basis of the parity rows by their leftmost one, bit j for place j.
+    pub fn basis(&self) -> Basis {
+        let n = self.h.len();
+        let mut basis = [0; 128];
+        for i in 0..self.t {
+            for bit in 0..self.field.m {
+                let mut row = (0..n).fold(0_u128, |row, j| row | u128::from(self.h[i ^ j] >> bit & 1) << j);
+                while row != 0 {
+                    let lead = row.trailing_zeros() as usize;
+                    if basis[lead] == 0 {
+                        basis[lead] = row;
+                        break;
+                    }
+                    row ^= basis[lead];
+                }
+            }
+        }
+        basis
+    }
+
+    pub fn roles(&self, out: &mut [u8]) -> u32 {
+        let basis = self.basis();
+        for (role, &row) in out.iter_mut().zip(&basis) {
+            *role = u8::from(row == 0);
+        }
+        out.iter().map(|&role| u32::from(role)).sum()
+    }
+
+    pub fn encode(&self, message: &[u8], word: &mut [u8]) {
+        let basis = self.basis();
+        let mut packed = 0_u128;
+        let mut taken = 0;
+        for place in 0..word.len() {
+            if basis[place] == 0 {
+                packed |= u128::from(message[taken]) << place;
+                taken += 1;
+            }
+        }
+        for place in (0..word.len()).rev() {
+            if basis[place] != 0 && (basis[place] & packed).count_ones() % 2 == 1 {
+                packed |= 1 << place;
+            }
+        }
+        for (place, bit) in word.iter_mut().enumerate() {
+            *bit = (packed >> place & 1) as u8;
+        }
+    }
+
+    pub fn message(&self, word: &[u8], message: &mut [u8]) {
+        let basis = self.basis();
+        let free = (0..word.len()).filter(|&place| basis[place] == 0);
+        for (bit, place) in message.iter_mut().zip(free) {
+            *bit = word[place];
+        }
+    }
+
+    fn evaluate(&self, half: &[u8], y: u8) -> u8 {
+        half.iter().rev().fold(0, |value, &coefficient| self.field.product(value, y) ^ coefficient)
+    }
+
+    /// The number of places turned, if the word can be repaired.
+    pub fn repair(&self, inverses: &[u8; 128], received: &[u8], repaired: &mut [u8]) -> Option<u32> {
+        let (n, t) = (self.h.len(), self.t);
+        let mut syndrome = [0; 64];
+        self.syndrome(received, &mut syndrome[..t]);
+        if syndrome[..t].iter().all(|&row| row == 0) {
+            repaired.copy_from_slice(received);
+            return Some(0);
+        }
+        // Two pairs of halves, the even one first, and the bounds of their degrees.
+        let mut pairs = [[[0_u8; 66]; 2]; 2];
+        pairs[0][0][0] = 1;
+        pairs[1][1][0] = 1;
+        let mut degrees = [0, 1];
+        let lengths = |degree: usize| [degree / 2 + 1, (degree + 1) / 2];
+        for i in 0..t {
+            let (z, s) = (inverses[i] ^ self.omega, syndrome[i]);
+            let y = self.field.product(z, z);
+            let discrepancy = [0, 1].map(|p: usize| {
+                let [even, odd] = lengths(degrees[p]);
+                let slope = self.evaluate(&pairs[p][1][..odd], y);
+                let level = self.evaluate(&pairs[p][0][..even], y);
+                self.field.product(1 ^ self.field.product(s, z), slope) ^ self.field.product(s, level)
+            });
+            let smaller = usize::from(degrees[1] < degrees[0]);
+            let pivot = if discrepancy[smaller] != 0 { smaller } else { 1 - smaller };
+            let other = 1 - pivot;
+            for half in 0..2 {
+                for k in 0..lengths(degrees[other])[half] {
+                    pairs[other][half][k] = self.field.product(discrepancy[pivot], pairs[other][half][k])
+                        ^ self.field.product(discrepancy[other], pairs[pivot][half][k]);
+                }
+                let mut lower = 0;
+                for k in 0..=lengths(degrees[pivot])[half] {
+                    let here = pairs[pivot][half][k];
+                    pairs[pivot][half][k] = lower ^ self.field.product(y, here);
+                    lower = here;
+                }
+            }
+            degrees[pivot] += 2;
+        }
+        let least = usize::from(degrees[1] < degrees[0]);
+        let [even, odd] = lengths(degrees[least]);
+        let mut word = [0; 128];
+        let mut turned = 0;
+        for j in 0..n {
+            let x = inverses[j] ^ inverses[0] ^ self.omega;
+            let y = self.field.product(x, x);
+            let level = self.evaluate(&pairs[least][0][..even], y);
+            let slope = self.evaluate(&pairs[least][1][..odd], y);
+            let root = level == self.field.product(x, slope);
+            word[j] = received[j] ^ u8::from(root);
+            turned += u32::from(root);
+        }
+        self.syndrome(&word[..n], &mut syndrome[..t]);
+        if turned as usize > t || syndrome[..t].iter().any(|&row| row != 0) {
+            return None;
+        }
+        repaired.copy_from_slice(&word[..n]);
+        Some(turned)
+    }
+
+    pub fn write_row(&self, gear: u8, lamp: u8, word: &mut [u8]) {
+        let mut message = [0; 128];
+        for (place, bit) in message[..5].iter_mut().enumerate() {
+            *bit = (gear | lamp << 3) >> place & 1;
+        }
+        self.encode(&message, word);
+    }
+
+    /// gear + 8 × lamp, if the word can be repaired and carries a row.
+    pub fn read_row(&self, inverses: &[u8; 128], received: &[u8], repaired: &mut [u8]) -> Option<u32> {
+        let n = self.h.len();
+        let mut word = [0; 128];
+        self.repair(inverses, received, &mut word[..n])?;
+        let mut message = [0; 128];
+        self.message(&word[..n], &mut message);
+        let number = (0..5).fold(0, |number, place| number | u32::from(message[place]) << place);
+        let (gear, lamp) = (number % 8, number / 8);
+        if message[5..].contains(&1) || gear > 6 || lamp > 2 || lamp == 1 && gear != 0 {
+            return None;
+        }
+        repaired.copy_from_slice(&word[..n]);
+        Some(number)
+    }
+}

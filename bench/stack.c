@@ -1,0 +1,107 @@
+/* The stack that each call uses, at the longest words. Each call is made in a thread of its own, on a stack that the
+ * thread paints below itself before; the lowest byte that lost its paint tells. Everything is bound before the program
+ * starts (-z now), so that no binding is counted.
+ *
+ *     cc -O2 -Iinclude bench/stack.c target/staticlib/libcapi.a -lpthread -Wl,-z,now -o target/stack && target/stack */
+#include <pthread.h>
+#include <stdint.h>
+#include <stdio.h>
+#include <stdlib.h>
+#include <string.h>
+#include "zovunelith.h"
+
+enum { M = 8, N = 128, T = 8, STACK = 1 << 17, PAINT = 0xA5, MARGIN = 96 };
+
+static zov_elem h[N], roots[N], support[N], block[N], syndrome[T];
+static uint8_t roles[N], message[N], word[N], received[N], repaired[N];
+static char text[2048], listing[4096];
+static size_t text_length;
+static int k;
+
+static int32_t field_sum(void) { return zov_field_sum(M, 3, 5); }
+static int32_t field_product(void) { return zov_field_product(M, 3, 5); }
+static int32_t field_inverse(void) { return zov_field_inverse(M, 3); }
+static int32_t block_sum(void) { return zov_block_sum(M, h, N, h, N, block, N); }
+static int32_t block_product(void) { return zov_block_product(M, h, N, h, N, block, N); }
+static int32_t block_inverse(void) { return zov_block_inverse(M, h, N, block, N); }
+static int32_t check(void) { return zov_check(M, N, T, 0, h, N, roots, N, support, N); }
+static int32_t same(void) { return zov_same(M, N, T, 0, h, N, M, N, T, 1, h, N); }
+static int32_t code_roles(void) { return zov_roles(M, N, T, 0, h, N, roles, N); }
+static int32_t word_syndrome(void) { return zov_syndrome(M, N, T, 0, h, N, received, N, syndrome, T); }
+static int32_t encode(void) { return zov_encode(M, N, T, 0, h, N, message, k, word, N); }
+static int32_t word_message(void) { return zov_message(M, N, T, 0, h, N, word, N, message, k); }
+static int32_t repair(void) { return zov_repair(M, N, T, 0, h, N, received, N, repaired, N); }
+static int32_t write_row(void) { return zov_write_row(M, N, T, 0, h, N, 1, 0, word, N); }
+static int32_t read_row(void) { return zov_read_row(M, N, T, 0, h, N, received, N, repaired, N); }
+static int32_t sheet(void) {
+    return zov_sheet((const uint8_t *)text, text_length, (uint8_t *)listing, sizeof listing);
+}
+
+static const struct call {
+    const char *name;
+    int32_t (*made)(void);
+} CALLS[] = {
+    {"zov_field_sum", field_sum},     {"zov_field_product", field_product}, {"zov_field_inverse", field_inverse},
+    {"zov_block_sum", block_sum},     {"zov_block_product", block_product}, {"zov_block_inverse", block_inverse},
+    {"zov_check", check},             {"zov_same", same},                   {"zov_roles", code_roles},
+    {"zov_syndrome", word_syndrome},  {"zov_encode", encode},               {"zov_message", word_message},
+    {"zov_repair", repair},           {"zov_write_row", write_row},         {"zov_read_row", read_row},
+    {"zov_sheet", sheet},
+};
+
+/* A call on its stack, and what it used of it. */
+struct trial {
+    const struct call *call;
+    volatile uint8_t *stack;
+    size_t used;
+};
+
+static void *run(void *argument) {
+    struct trial *trial = argument;
+    volatile uint8_t *top = __builtin_frame_address(0);
+    top -= MARGIN;
+    for (volatile uint8_t *byte = trial->stack; byte < top; byte++)
+        *byte = PAINT;
+    int32_t value = trial->call->made();
+    if (value < 0) {
+        fprintf(stderr, "%s is refused by %d\n", trial->call->name, -value);
+        exit(1);
+    }
+    volatile uint8_t *lowest = trial->stack;
+    while (lowest < top && *lowest == PAINT)
+        lowest++;
+    trial->used = MARGIN + (size_t)(top - lowest);
+    return NULL;
+}
+
+static size_t used(const struct call *call) {
+    struct trial trial = {call, aligned_alloc(4096, STACK), 0};
+    pthread_attr_t attributes;
+    pthread_t thread;
+    if (pthread_attr_init(&attributes) || pthread_attr_setstack(&attributes, (void *)trial.stack, STACK) ||
+        pthread_create(&thread, &attributes, run, &trial) || pthread_join(thread, NULL)) {
+        fprintf(stderr, "no thread could be made\n");
+        exit(1);
+    }
+    free((void *)trial.stack);
+    return trial.used;
+}
+
+int main(void) {
+    for (int i = 0; i < N; i++)
+        h[i] = (zov_elem)zov_field_inverse(M, 128 ^ i); /* 1/h_i is i with its top bit set: an accepted signature */
+    k = code_roles();
+    write_row();
+    memcpy(received, word, N);
+    for (int i = 0; i < T; i++)
+        received[i * 16] ^= 1;
+    text_length = sprintf(text, "%4d%4d%4d%4d\n", M, N, T, 0);
+    for (int i = 0; i < N; i++)
+        text_length += sprintf(text + text_length, "%4d", h[i]);
+    text_length += sprintf(text + text_length, "\n");
+
+    printf("| call | stack, bytes |\n|---|---|\n");
+    for (size_t i = 0; i < sizeof CALLS / sizeof *CALLS; i++)
+        printf("| `%s` | %zu |\n", CALLS[i].name, used(&CALLS[i]));
+    return 0;
+}

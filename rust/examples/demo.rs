@@ -1,0 +1,146 @@
+//! What the proved library does for a card: its sheet, a row sent and repaired, a word that is too far, and every row
+//! with every one and every two bits turned.
+//!
+//!     bash demo              card T, the toy example
+//!     bash demo SHEET        the card on a sheet
+
+use std::env;
+use std::fs;
+use std::process::exit;
+use zovunelith::sheet::{self, LONGEST_LISTING};
+use zovunelith::{Code, Lamp, Refusal, Row};
+
+/// The sheet of card T.
+const TOY: &str = "   5  16   2  24\n  12   8  10  22  26   9  16  21  14   5  17   4  30  23  25  31\n";
+
+const FIRST_DARK: Row = Row { gear: 1, lamp: Lamp::Dark };
+
+/// The allowed rows: dark and amber with every gear, green in neutral only.
+fn rows() -> Vec<Row> {
+    let lamps = [Lamp::Dark, Lamp::Green, Lamp::Amber];
+    let rows = (0..=6).flat_map(|gear| lamps.map(|lamp| Row { gear, lamp }));
+    rows.filter(|row| row.lamp != Lamp::Green || row.gear == 0).collect()
+}
+
+fn turned(word: &[u8], places: &[usize]) -> Vec<u8> {
+    let mut word = word.to_vec();
+    places.iter().for_each(|&place| word[place] ^= 1);
+    word
+}
+
+fn bits(word: &[u8]) -> String {
+    word.iter().map(|bit| bit.to_string()).collect()
+}
+
+/// "0 and 8", "3".
+fn named(places: &[usize]) -> String {
+    let names: Vec<String> = places.iter().map(usize::to_string).collect();
+    match names.split_last() {
+        Some((last, [])) => last.clone(),
+        Some((last, first)) => format!("{} and {last}", first.join(", ")),
+        None => "none".to_string(),
+    }
+}
+
+/// Writes a row, which the card has room for.
+fn written(code: &Code, row: Row) -> Vec<u8> {
+    let mut word = vec![0; code.h.len()];
+    code.write_row(row, &mut word).expect("an allowed row");
+    word
+}
+
+fn show_reading(code: &Code, received: &[u8]) {
+    match code.read_row(received, &mut vec![0; received.len()]) {
+        Ok(reading) => println!("  read      {}, repaired bits: {}", reading.row, reading.count),
+        Err(refusal) => println!("  refused   {refusal}"),
+    }
+}
+
+/// A row is sent, at most t bits are turned, and it is read.
+fn show_repair(code: &Code) {
+    let word = written(code, FIRST_DARK);
+    let places = &[0, word.len() / 2][..if code.t < 2 { 1 } else { 2 }];
+    println!("{FIRST_DARK}, with bits {} turned:", named(places));
+    println!("  sent      {}", bits(&word));
+    let received = turned(&word, places);
+    println!("  received  {}", bits(&received));
+    show_reading(code, &received);
+}
+
+/// The same with a run of t + 1 turned bits that leaves no code word near.
+fn show_too_far(code: &Code) {
+    let word = written(code, FIRST_DARK);
+    let count = code.t as usize + 1;
+    for start in 0..word.len() - code.t as usize {
+        let places: Vec<usize> = (start..start + count).collect();
+        let received = turned(&word, &places);
+        if code.repair(&received, &mut vec![0; word.len()]) == Err(Refusal::TooFar) {
+            println!("{FIRST_DARK}, with bits {} turned:", named(&places));
+            println!("  received  {}", bits(&received));
+            return show_reading(code, &received);
+        }
+    }
+    println!("No run of {count} turned bits is too far.");
+}
+
+/// Every row with every one and, where t allows it, every two bits turned.
+fn show_all(code: &Code) {
+    let n = code.h.len();
+    let doubles = code.t >= 2;
+    println!("Every row with every one{} turned:", if doubles { " and every two bits" } else { " bit" });
+    let (mut all, mut all_right) = (0, 0);
+    for row in rows() {
+        let word = written(code, row);
+        let (mut words, mut right) = (0, 0);
+        let mut read = |places: &[usize]| {
+            let reading = code.read_row(&turned(&word, places), &mut vec![0; n]);
+            words += 1;
+            right +=
+                u32::from(reading.is_ok_and(|reading| reading.row == row && reading.count as usize == places.len()));
+        };
+        for first in 0..n {
+            read(&[first]);
+            (first + 1..n).filter(|_| doubles).for_each(|second| read(&[first, second]));
+        }
+        println!("  {:<16}{right} of {words} read as sent", row.to_string());
+        all += words;
+        all_right += right;
+    }
+    println!("  {:<16}{all_right} of {all} read as sent", "together");
+}
+
+fn main() {
+    let text = match env::args().nth(1) {
+        None => TOY.as_bytes().to_vec(),
+        Some(path) => fs::read(&path).unwrap_or_else(|error| {
+            eprintln!("{path}: {error}");
+            exit(1);
+        }),
+    };
+    let mut listing = vec![0; LONGEST_LISTING];
+    let length = sheet::listing(&text, &mut listing).unwrap_or_else(|refusal| {
+        eprintln!("the sheet is refused by {refusal}");
+        exit(1);
+    });
+    let text = String::from_utf8_lossy(&text);
+    let listing = String::from_utf8_lossy(&listing[..length]);
+    println!("The sheet: m, n, t, offset; then the signature h.");
+    print!("{text}");
+    println!("Its listing: m, n, t, offset, rank, k; then column, h, support, and 1 for a message column.");
+    print!("{listing}");
+    println!();
+
+    // The listing has seen to it that this is a sheet.
+    let numbers: Vec<u32> = text.split_whitespace().map(|number| number.parse().expect("a number")).collect();
+    let h: Vec<u8> = numbers[4..].iter().map(|&entry| entry as u8).collect();
+    let code = Code { m: numbers[0], n: numbers[1], t: numbers[2], omega: numbers[3], h: &h };
+    if let Err(refusal) = code.write_row(FIRST_DARK, &mut vec![0; h.len()]) {
+        println!("This card carries no rows: {refusal}.");
+        return;
+    }
+    show_repair(&code);
+    println!();
+    show_too_far(&code);
+    println!();
+    show_all(&code);
+}
