@@ -2,7 +2,7 @@
 use mathlib.Core.Path.{_≡_, refl, sym, ap, ap₂, _∙_, subst}
 use mathlib.Core.Logic.{_≢_}
 use Prim.Native.Nat.{ℕ, zero, suc, _+_, _-_, _*_, _/_, _%_, _^_, _<_, suc-le-suc}
-use native.Mathlib.Nat.{zero-mul, one-mul, mul-comm, mul-assoc, mod-lt, mod-eq-of-lt, div-eq-of-lt, lt-of-lt-of-le, zero-lt-suc, add-zero, zero-div, div-one, pow-suc, div-add-mod', not-suc-le-zero}
+use native.Mathlib.Nat.{zero-mul, one-mul, mul-comm, mul-assoc, mod-lt, mod-eq-of-lt, div-eq-of-lt, lt-of-lt-of-le, zero-lt-suc, add-zero, zero-div, div-one, pow-suc, not-suc-le-zero}
 use native.Mathlib.Decide.{ℕ-discrete, decLt}
 use native.Mathlib.Omega.{arith}
 use native.Mathlib.Numerals.{one-add}
@@ -11,7 +11,7 @@ use lib.Dec.{lit<}
 use lib.Pow.{shr-shr, shl-shr, shl-lt, pow-add, pow-mono}
 use Rattle.algebra.specs.All.{below-suc}
 use Rattle.algebra.specs.Field.{Ops, Laws}
-use Rattle.algebra.specs.Xor.{_⊕_, xor, ⊕-comm, ⊕-assoc, ⊕-self, ⊕-zero, zero-⊕, ⊕-lt, ⊕-eq, ⊕-block, ⊕-div, ⊕-mod}
+use Rattle.algebra.specs.Xor.{_⊕_, xor, ⊕-comm, ⊕-assoc, ⊕-self, ⊕-zero, zero-⊕, ⊕-lt, ⊕-block, ⊕-div, ⊕-mod}
 
 -- what holds at 0 and at 1 holds at every remainder by two
 pub bit-cases : (P : ℕ → Type 0) → P 0 → P 1 → (b : ℕ) → P (b % 2)

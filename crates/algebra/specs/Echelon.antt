@@ -5,14 +5,14 @@
 -- left; and a solution whose last one stands at p exists exactly if no row leads at p.
 use mathlib.Core.Path.{_≡_, refl, sym, ap, ap₂, _∙_, subst}
 use mathlib.Core.Logic.{_≢_}
-use mathlib.Core.Bool.{Bool, true, false, cond, false≢true}
+use mathlib.Core.Bool.{Bool, true, false, cond}
 use Prim.Native.Nat.{ℕ, zero, suc, _+_ as _+ℕ_, _-_, _<_, _≤_}
 use native.Mathlib.Nat.{le-refl}
-use native.Mathlib.Decide.{ℕ-discrete, decLt}
+use native.Mathlib.Decide.{ℕ-discrete}
 use native.Mathlib.Omega.{arith}
 use lib.Dec.{eqb}
 use borrow.Author.Tests.{eq-eqb, ne-eqb}
-use Rattle.algebra.specs.Field.{Ops, Laws, ring, add-nought, nought-mul, mul-nought, add-eq}
+use Rattle.algebra.specs.Field.{Ops, Laws, ring, nought-mul, mul-nought, add-eq}
 use Rattle.algebra.specs.Sum.{sum, sum-cong, sum-nought, sum-add, sum-split, in-sum}
 
 module _ {A : Type 0} (K : Ops A) where

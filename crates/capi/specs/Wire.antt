@@ -12,10 +12,8 @@ use Rattle.words.specs.declared.Counted.{Counted}
 use Rattle.words.specs.declared.Counted.the-variants.{Count, Refused as NotCounted}
 use Rattle.repair.specs.declared.Recovery.{Recovery}
 use Rattle.repair.specs.declared.Recovery.the-variants.{Repaired, Refused as NotRepaired}
-use Rattle.rows.specs.declared.Lamp.{Lamp}
 use Rattle.rows.specs.declared.Reading.{Reading}
 use Rattle.rows.specs.declared.Reading.the-variants.{Read, Refused as NotRead}
-use Rattle.rows.specs.declared.Row.{Row}
 use Rattle.rows.specs.Rows.{lampNumber}
 use Rattle.slices.specs.Lengths.{longest}
 use Rattle.listing.specs.declared.Listed.{Listed}

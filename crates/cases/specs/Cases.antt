@@ -1,7 +1,7 @@
 -- 01's cases marked P, as one table with one proof over its rows. A row has what the public definitions give, computed, and what 01 says.
 use mathlib.Core.Path.{_≡_, refl}
 use mathlib.Core.Bool.{Bool, true, _&&_}
-use mathlib.Core.List.{List, [], _∷_, _++_}
+use mathlib.Core.List.{List, [], _∷_}
 use Prim.Native.Nat.{ℕ}
 use lib.ListN.{length}
 use Rattle.algebra.specs.All.{all, some, both-true}
@@ -30,7 +30,7 @@ use Rattle.dyadic.specs.Answers.{
   inverseAnswer as blockInverseAnswer,
 }
 use Rattle.dyadic.specs.Block.{blockProduct, total, quotient, blockInverse}
-use Rattle.params.specs.Answers.{codeFault, checkFault, checkAnswer, rootsAfter, supportAfter}
+use Rattle.params.specs.Answers.{codeFault, checkFault, checkAnswer, supportAfter}
 use Rattle.params.specs.Code.{isLength, isRootCount, shapeRules, signatureRules, codeRules}
 use Rattle.params.specs.Existence.{rootAt, supportAt}
 use Rattle.params.specs.Tests.{inverseAt, nonzero, noZero, pairKept, affine, linear, distinct}

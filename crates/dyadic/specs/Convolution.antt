@@ -10,7 +10,7 @@ use native.Mathlib.Omega.{arith}
 use lib.Arith.{lt-one}
 use Rattle.algebra.specs.Field.{Ops, Laws, ring, nought-mul}
 use Rattle.algebra.specs.Sum.{sum, sum-cong, sum-split, sum-reindex, left-top, right-top, both-top}
-use Rattle.algebra.specs.Xor.{_⊕_, xor, ⊕-self, zero-⊕, ⊕-zero, ⊕-lt, ⊕-block}
+use Rattle.algebra.specs.Xor.{_⊕_, xor, ⊕-zero, ⊕-lt}
 use Rattle.dyadic.specs.Block.{convolution}
 
 -- f on the upper half

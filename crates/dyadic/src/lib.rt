@@ -8,7 +8,6 @@ pub mod internal;
 use field::Elem;
 use slices::Outcome;
 ghost use mathlib.Core.Path.{_≡_};
-ghost use lib.ListN.{length};
 ghost use Rattle.dyadic.specs.Answers.{sizeFault, pairFault, blockFault, sumAnswer, productAnswer, inverseAnswer};
 
 pub fn sum(m: u32, a: &[Elem], b: &[Elem], out: &mut [Elem]) -> Outcome

@@ -1,8 +1,8 @@
 -- What is known once a call's rules have held.
 use mathlib.Core.Path.{_≡_}
-use mathlib.Core.List.{[], _∷_, _++_}
+use mathlib.Core.List.{[], _∷_}
 use Prim.Native.Nat.{ℕ, _^_, _<_}
-use Rattle.field.specs.Rules.{_unless_, fault, isWidth, isElement, hold, width-is, element-is}
+use Rattle.field.specs.Rules.{_unless_, isWidth, isElement, hold, width-is, element-is}
 use Rattle.field.specs.Answers.{elementRules, elementFault, pairFault}
 use Rattle.field.specs.Gf.{Width}
 

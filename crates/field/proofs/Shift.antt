@@ -2,14 +2,14 @@
 use mathlib.Core.Path.{_≡_, refl, sym, ap, ap₂, _∙_, subst}
 use mathlib.Core.Logic.{_≢_}
 use Prim.Native.Nat.{ℕ, zero, suc, pred, _+_, _-_, _*_, _/_, _%_, _^_, _≤_, _<_, suc-le-suc}
-use native.Mathlib.Nat.{zero-mul, one-mul, zero-lt-suc, mod-eq-of-lt, div-eq-of-lt, lt-of-lt-of-le, div-lt-iff-lt-mul, pow-suc}
+use native.Mathlib.Nat.{zero-mul, one-mul, mod-eq-of-lt, div-eq-of-lt, lt-of-lt-of-le, div-lt-iff-lt-mul}
 use native.Mathlib.Decide.{decLt}
 use native.Mathlib.Omega.{arith}
 use native.Mathlib.Numerals.{sub-one}
 use lib.Dec.{lit<}
 use lib.Pow.{pow-pos, pow-mono}
 use lib.Bits.{bitXor}
-use Rattle.algebra.specs.Xor.{_⊕_, xor, ⊕-assoc, ⊕-zero, zero-⊕, ⊕-lt}
+use Rattle.algebra.specs.Xor.{_⊕_, ⊕-assoc, ⊕-zero, zero-⊕, ⊕-lt}
 use Rattle.field.specs.Product.{product, cutBack, squares, inverse}
 use Rattle.field.specs.Horner.{timesU, horner, horner-timesU}
 use Rattle.field.specs.Ring.{Degree, timesU-lt, bit-lt, product-horner, product-lt, product-one, product-comm, product-assoc}

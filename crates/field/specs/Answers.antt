@@ -1,5 +1,5 @@
 -- What the field's public calls answer, for every input: the number of the first rule that does not hold, or the element.
-use mathlib.Core.Bool.{Bool, not}
+use mathlib.Core.Bool.{not}
 use mathlib.Core.List.{List, [], _∷_, _++_}
 use Prim.Native.Nat.{ℕ}
 use lib.Dec.{eqb}

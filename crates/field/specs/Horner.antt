@@ -2,13 +2,12 @@
 --
 -- With `timesU` for "times u, cut back", `horner k b` is the polynomial b in the one operator `timesU`. Such operators are linear and commute with
 -- each other, and that is all that the ring's laws need.
-use mathlib.Core.Path.{_≡_, refl, sym, ap, ap₂, _∙_, subst}
-use Prim.Native.Nat.{ℕ, zero, suc, _+_, _*_, _/_, _%_, _^_, _≤_, _<_}
-use native.Mathlib.Nat.{zero-mul, one-mul, mod-lt, zero-lt-suc, add-zero}
-use native.Mathlib.Omega.{arith}
+use mathlib.Core.Path.{_≡_, sym, ap, ap₂, _∙_}
+use Prim.Native.Nat.{ℕ, zero, suc, _*_, _/_, _%_, _^_}
+use native.Mathlib.Nat.{zero-mul, one-mul}
 use Rattle.algebra.specs.Bits.{bit-cases, bit-⊕, ⊕-bit, ⊕-double}
-use Rattle.algebra.specs.Xor.{_⊕_, xor, ⊕-self, ⊕-zero, zero-⊕, ⊕-block, ⊕-div, ⊕-mod}
-use Rattle.field.specs.Product.{polyProduct, cutBack, remainder, product}
+use Rattle.algebra.specs.Xor.{_⊕_, xor, ⊕-self, ⊕-div}
+use Rattle.field.specs.Product.{cutBack}
 
 -- two sums of two, added
 pub ⊕-pairs : {p q : ℕ} (r s r′ s′ : ℕ) → p ≡ r ⊕ s → q ≡ r′ ⊕ s′ → p ⊕ q ≡ (r ⊕ r′) ⊕ (s ⊕ s′)

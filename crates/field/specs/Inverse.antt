@@ -7,11 +7,11 @@
 use mathlib.Core.Path.{_≡_, refl, sym, ap, ap₂, _∙_, subst}
 use mathlib.Core.Logic.{_≢_}
 use Prim.Native.Nat.{ℕ, zero, suc, pred, _+_, _-_, _*_, _/_, _%_, _^_, _≤_, _<_}
-use native.Mathlib.Nat.{zero-mul, one-mul, mod-eq-of-lt, le-refl, lt-of-lt-of-le, zero-add, suc-add, add-suc, add-zero}
+use native.Mathlib.Nat.{zero-mul, one-mul, mod-eq-of-lt, le-refl, lt-of-lt-of-le}
 use native.Mathlib.Omega.{arith}
-use lib.Pow.{pow-pos, pow-mono}
+use lib.Pow.{pow-mono}
 use lib.Dec.{lit<}
-use Rattle.algebra.specs.Xor.{_⊕_, xor, ⊕-self, ⊕-zero, zero-⊕, ⊕-lt}
+use Rattle.algebra.specs.Xor.{_⊕_, xor, ⊕-self, ⊕-lt}
 use Rattle.field.specs.Product.{product, squares, inverse}
 use Rattle.algebra.specs.Bits.{bit-cases}
 use Rattle.field.specs.Horner.{timesU, horner, horner-timesU}

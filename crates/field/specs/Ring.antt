@@ -1,14 +1,13 @@
 -- The product is Horner's rule, and elements below 2^m with ⊕ and the product are a commutative ring, for every m and every word of degree m.
-use mathlib.Core.Path.{_≡_, refl, sym, ap, ap₂, _∙_, subst}
-use mathlib.Core.Logic.{_⊎_, inl, inr}
+use mathlib.Core.Path.{_≡_, sym, ap, ap₂, _∙_, subst}
 use Prim.Native.Nat.{ℕ, zero, suc, _+_, _-_, _*_, _/_, _%_, _^_, _≤_, _<_}
-use native.Mathlib.Nat.{zero-add, zero-mul, one-mul, le-refl, mul-one, mod-lt, zero-lt-suc, add-zero, add-suc, pow-suc, div-eq-of-lt, mod-eq-of-lt, mod-one, mul-div-cancel, mul-mod-left, div-add-mod', zero-mod, zero-div, lt-of-lt-of-le, add-comm}
+use native.Mathlib.Nat.{zero-add, zero-mul, one-mul, le-refl, mul-one, mod-lt, zero-lt-suc, add-zero, add-suc, pow-suc, div-eq-of-lt, mod-eq-of-lt, mod-one, mul-div-cancel, mul-mod-left, div-add-mod', lt-of-lt-of-le}
 use native.Mathlib.Decide.{decLt}
 use native.Mathlib.Numerals.{add-one}
 use native.Mathlib.Omega.{arith}
 use lib.Dec.{lit<}
-use lib.Pow.{pow-pos, pow-mono, mod-pow-add, high, split}
-use Rattle.algebra.specs.Xor.{_⊕_, xor, ⊕-self, ⊕-zero, zero-⊕, ⊕-comm, ⊕-lt, ⊕-block, ⊕-shifted, ⊕-div, ⊕-mod}
+use lib.Pow.{pow-pos, pow-mono, mod-pow-add, high}
+use Rattle.algebra.specs.Xor.{_⊕_, ⊕-self, ⊕-zero, zero-⊕, ⊕-comm, ⊕-lt, ⊕-block, ⊕-shifted, ⊕-div, ⊕-mod}
 use Rattle.field.specs.Product.{polyProduct, cutBack, remainder, product}
 use Rattle.algebra.specs.Bits.{bit-cases}
 use Rattle.field.specs.Horner.{timesU, timesU-zero, horner, ⊕-horner, horner-comm, cutBack-⊕}

@@ -1,6 +1,6 @@
 -- "That each is a field is shown with the table": one test, computed over the whole table, and one law that carries it to each width.
 -- The test makes about m² products a word (the traces of m powers of u), so it stays cheap at widths where trying every element would not be.
-use mathlib.Core.Path.{_≡_, refl, sym, ap, _∙_, subst}
+use mathlib.Core.Path.{_≡_, refl, sym, _∙_, subst}
 use mathlib.Core.Bool.{Bool, true, _&&_}
 use mathlib.Core.List.{List, [], _∷_}
 use Prim.Native.Nat.{ℕ, zero, suc, _+_, _-_, _^_, _≤_, _<_}

@@ -1,6 +1,6 @@
 -- The parameters of a code (01's card): width m, length n, number t of roots, offset ω and signature h; when they are accepted, and by which number
 -- they are refused otherwise.
-use mathlib.Core.Path.{_≡_, refl, sym, subst}
+use mathlib.Core.Path.{_≡_, sym, subst}
 use mathlib.Core.Bool.{Bool, true, _&&_}
 use mathlib.Core.List.{List, [], _∷_, _++_}
 use Prim.Native.Nat.{ℕ, _/_, _^_, _≤_, _<_}
@@ -12,7 +12,7 @@ use native.Mathlib.Omega.{arith}
 use borrow.Author.Tests.{leb-true, le-leb, eqb-true, eq-eqb}
 use Rattle.algebra.specs.All.{both-true, all-true}
 use Rattle.field.specs.Gf.{Width, gf}
-use Rattle.field.specs.Rules.{Rule, _unless_, fault, fault-past, isWidth, isElement, numbered, Hold, hold, width, width-is, element, element-is, fault-empty}
+use Rattle.field.specs.Rules.{Rule, _unless_, fault, fault-past, isWidth, isElement, numbered, hold, width, width-is, element, element-is, fault-empty}
 use Rattle.slices.specs.Lengths.{longestLog, longest, isPower, power-is, power}
 use Rattle.slices.specs.Elements.{allElements, elements-are}
 use Rattle.params.specs.Signature.{Conditions}

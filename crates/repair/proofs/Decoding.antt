@@ -2,15 +2,14 @@
 -- repair ends.
 use mathlib.Core.Path.{_≡_, refl, sym, ap, ap₂, _∙_, subst}
 use mathlib.Core.Logic.{_≢_, _⊎_, inl, inr}
-use mathlib.Core.Bool.{Bool, true, false, cond, not, _&&_}
+use mathlib.Core.Bool.{Bool, true, false, cond, _&&_}
 use mathlib.Core.List.{List, [], _∷_}
-use Prim.Native.Nat.{ℕ, zero, suc, _+_, _/_, _<_, _≤_, _^_}
-use native.Mathlib.Nat.{add-zero, lt-of-lt-of-le}
+use Prim.Native.Nat.{ℕ, _+_, _/_, _<_, _≤_, _^_}
 use native.Mathlib.Numerals.{add-one}
 use native.Mathlib.Omega.{arith}
 use lib.Dec.{eqb}
 use lib.ListN.{length, set}
-use borrow.Author.Tests.{eq-eqb, eqb-true}
+use borrow.Author.Tests.{eqb-true}
 use Rattle.algebra.specs.All.{all, all-cong, both-true}
 use Rattle.algebra.specs.Locator.Nodal.{Points, points-cong}
 use Rattle.algebra.specs.Locator.Pass.{Invariant, invariant-cong}
@@ -18,7 +17,7 @@ use Rattle.algebra.specs.Locator.Split.{value}
 use Rattle.algebra.specs.Tabulate.{filled, tabulate, tabulate-cong, length-tabulate, getD-tabulate, Filling, filling-start, filling-turn}
 use Rattle.algebra.specs.Xor.{_⊕_, ⊕-lt}
 use Rattle.field.specs.Gf.{gf}
-use Rattle.field.specs.Rules.{_unless_, fault, unless-refused, fault-empty, fault-here, fault-past, fault-first, refuse, accept}
+use Rattle.field.specs.Rules.{_unless_, unless-refused, fault-empty, fault-here, fault-past, fault-first, refuse, accept}
 use Rattle.slices.specs.Lengths.{longest}
 use Rattle.params.specs.Acceptance.{accepted-pair}
 use Rattle.params.specs.Answers.{codeFault}
@@ -31,7 +30,7 @@ use Rattle.words.specs.Columns.{count}
 use Rattle.words.specs.Encoding.{IsBits}
 use Rattle.words.specs.Parity.{signature-syndrome, signature-in}
 use Rattle.words.specs.Table.{Reaches, signatureSum}
-use Rattle.words.specs.Word.{whole, isWord, syndromeAt, isCodeWord}
+use Rattle.words.specs.Word.{whole, isWord, isCodeWord}
 use Rattle.words.proofs.Ending.{bits-anywhere, code-is, n-is, more-rules}
 use Rattle.repair.specs.declared.Recovery.{Recovery}
 use Rattle.repair.specs.declared.Recovery.the-variants.{Repaired, Refused}

@@ -9,14 +9,11 @@ use borrow.Author.Tests.{le-leb, lt-leb}
 use lib.Dec.{eqb, leb}
 use lib.ListN.{length, take, replicate}
 use lib.Seq.{length-take-le}
-use Rattle.algebra.specs.Tabulate.{filled}
 use Rattle.field.specs.Rules.{_unless_, fault, unless-refused, fault-here, fault-past, fault-first, fault-rest, refuse, accept, fault-empty}
 use Rattle.slices.specs.declared.Outcome.the-variants.{Done, Refused}
 use Rattle.slices.specs.Lengths.{longest}
 use Rattle.params.specs.Answers.{codeFault}
 use Rattle.params.specs.Code.{Accepted, codeRules}
-use Rattle.params.specs.Tests.{inverseAt}
-use Rattle.params.proofs.Stored.{inverses-stored}
 use Rattle.words.specs.Answers.{messageLength, Ended}
 use Rattle.words.specs.Columns.{messageOf}
 use Rattle.words.specs.Table.{placedAt, ParityBasis, Completed}
@@ -26,7 +23,6 @@ use Rattle.words.proofs.Meaning.{length-whole, rank-is-rest, dimension-is, mess
 use Rattle.repair.specs.declared.Recovery.{Recovery}
 use Rattle.repair.specs.declared.Recovery.the-variants.{Repaired, Refused as NotRepaired}
 use Rattle.repair.specs.Answers.{wordRules, turnedCount, wordAnswer, wordAfter}
-use Rattle.repair.specs.Decoding.{Inverted}
 use Rattle.repair.specs.Repair.{repairedOf}
 use Rattle.rows.specs.declared.Reading.{Reading}
 use Rattle.rows.specs.declared.Reading.the-variants.{Read, Refused as NotRead}

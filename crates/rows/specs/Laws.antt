@@ -1,6 +1,6 @@
 -- What is written is read again, also with up to t bits turned; and what is read is an allowed row, the one that the repaired word carries.
 use mathlib.Core.Path.{_≡_, refl, sym, ap, ap₂, _∙_, subst}
-use mathlib.Core.Bool.{Bool, true, false, cond, not, _&&_}
+use mathlib.Core.Bool.{Bool, true, false, cond, _&&_}
 use mathlib.Core.List.{List, [], _∷_, _++_}
 use Prim.Native.Nat.{ℕ, zero, suc, _+_, _<_, _≤_}
 use native.Mathlib.Decide.{ℕ-discrete}
@@ -15,7 +15,7 @@ use Rattle.params.specs.Code.{Accepted, codeRules, code-numbered, accepts, acce
 use Rattle.params.specs.Tests.{entryOf, both-hold}
 use Rattle.words.specs.Answers.{messageLength}
 use Rattle.words.specs.Chosen.{length-chosen}
-use Rattle.words.specs.Columns.{count, chosen, isMessageColumn, dimension, messageOf, encodingOf}
+use Rattle.words.specs.Columns.{chosen, isMessageColumn, dimension, messageOf, encodingOf}
 use Rattle.words.specs.Encoding.{IsBits, encoding-carries, encoding-only}
 use Rattle.words.specs.Word.{whole, isWord}
 use Rattle.words.proofs.Ending.{bits-anywhere}

@@ -4,7 +4,7 @@ use mathlib.Core.Logic.{_≢_, _↔_}
 use mathlib.Core.Bool.{Bool, true, false, cond, false≢true}
 use mathlib.Core.List.{List}
 use Prim.Native.Nat.{ℕ, zero, suc, _+_, _*_, _/_, _%_, _≤_, _<_}
-use native.Mathlib.Nat.{not-suc-le-zero, add-zero, div-lt-iff-lt-mul, mod-lt, lt-of-lt-of-le, le-trans, mul-le-mul-left, mul-le-mul-right}
+use native.Mathlib.Nat.{not-suc-le-zero, div-lt-iff-lt-mul, mod-lt, lt-of-lt-of-le, le-trans, mul-le-mul-left, mul-le-mul-right}
 use native.Mathlib.Omega.{arith}
 use borrow.Author.Count.{below-more}
 use lib.Arith.{digits-div, digits-mod, digits-lt}
@@ -12,7 +12,7 @@ use lib.Dec.{eqb}
 use lib.ListN.{length}
 use Rattle.algebra.specs.All.{below-suc}
 use Rattle.algebra.specs.Bits.{gf2, gf2-laws}
-use Rattle.algebra.specs.Echelon.{Echelon, Solves, Inside, dot, dot-cong, agree}
+use Rattle.algebra.specs.Echelon.{Solves, Inside, dot, dot-cong, agree}
 use Rattle.algebra.specs.Field.{mul-nought}
 use Rattle.algebra.specs.Sum.{sum-nought}
 use Rattle.field.specs.Words.{widest}

@@ -1,14 +1,14 @@
 -- How the calls on words end: which number is due after the code's own rules, and what the buffer then holds.
-use mathlib.Core.Path.{_≡_, refl, sym, ap, ap₂, _∙_, subst}
+use mathlib.Core.Path.{_≡_, refl, sym, _∙_, subst}
 use mathlib.Core.Logic.{_≢_}
 use mathlib.Core.Bool.{Bool, true, false}
 use mathlib.Core.List.{List, [], _∷_, _++_}
 use Prim.Native.Nat.{ℕ, _-_, _*_, _≤_, _<_}
 use native.Mathlib.Omega.{arith}
 use native.Mathlib.Decide.{decLt}
-use lib.Dec.{eqb, ltb}
+use lib.Dec.{ltb}
 use lib.ListN.{length, List·getD-eq-default}
-use borrow.Author.Tests.{eq-eqb, ne-eqb, ltb-true, eqb-true}
+use borrow.Author.Tests.{eq-eqb, ne-eqb, ltb-true}
 use Rattle.algebra.specs.All.{all-is}
 use Rattle.field.specs.Rules.{Rule, _unless_, fault, unless-refused, fault-here, fault-past, fault-first, fault-rest, refuse, accept}
 use Rattle.slices.specs.declared.Outcome.the-variants.{Done, Refused}

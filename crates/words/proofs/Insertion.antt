@@ -1,19 +1,18 @@
 -- Bringing a row into the basis, over plain lists: what storing, reducing and the loop that does both make of it.
 use mathlib.Core.Path.{_≡_, refl, sym, ap, ap₂, _∙_, subst, subst₂}
 use mathlib.Core.Logic.{_≢_, _↔_}
-use mathlib.Core.Bool.{Bool, true, false, cond, false≢true}
+use mathlib.Core.Bool.{Bool, true, false, cond}
 use mathlib.Core.List.{List, _++_}
 use Prim.Native.Nat.{ℕ, zero, suc, _+_, _-_, _*_, _/_, _%_, _≤_, _<_}
 use native.Mathlib.Nat.{not-suc-le-zero, add-zero, lt-of-lt-of-le}
 use native.Mathlib.Decide.{ℕ-discrete, decLt}
 use native.Mathlib.Omega.{arith}
 use borrow.Author.Count.{below-more}
-use borrow.Author.Tests.{eq-eqb}
 use lib.Dec.{eqb}
-use lib.ListN.{length, getD, take, drop, set, length-set, length-drop}
+use lib.ListN.{length, take, drop, set, length-set, length-drop}
 use lib.Seq.{length-take-le, getD-take, getD-drop, getD-set-same, getD-set-other}
 use Rattle.algebra.specs.Bits.{bitAt, bitAt-lt, gf2, gf2-laws}
-use Rattle.algebra.specs.Echelon.{Echelon, Solves, Inside, dot, dot-cong, dot-add, put, put-at, put-other}
+use Rattle.algebra.specs.Echelon.{Echelon, Solves, dot, dot-cong, dot-add, put, put-at, put-other}
 use Rattle.algebra.specs.Elimination.{stored-solves, stored-echelon, dot-empty}
 use Rattle.algebra.specs.Splice.{length-spliced, spliced-inside, spliced-before, spliced-after}
 use Rattle.algebra.specs.Xor.{_⊕_, ⊕-self, ⊕-zero}
@@ -22,7 +21,7 @@ use Rattle.params.specs.Tests.{entryOf}
 use Rattle.words.specs.Columns.{count}
 use Rattle.words.specs.Chosen.{count-tests}
 use Rattle.words.specs.Packed.{packedBit, Added}
-use Rattle.words.specs.Table.{rowWords, rowBit, leadAt, Room, Form, Reduced, Stored, Inserted}
+use Rattle.words.specs.Table.{rowWords, rowBit, leadAt, Form, Reduced, Stored, Inserted}
 
 -- a row of the table as a packed row of its own
 pub row-part : (rows : List ℕ) (p j : ℕ) → j < longest → packedBit (take rowWords (drop (p * rowWords) rows)) j ≡ rowBit rows p j

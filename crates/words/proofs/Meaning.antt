@@ -1,9 +1,8 @@
 -- What the table of an accepted code means: its free places are the message columns, and a word completed by it is the encoding of its message.
-use mathlib.Core.Path.{_≡_, refl, sym, ap, ap₂, _∙_, subst}
-use mathlib.Core.Logic.{_↔_}
-use mathlib.Core.Bool.{Bool, true, false, cond, not}
+use mathlib.Core.Path.{_≡_, sym, ap, _∙_, subst}
+use mathlib.Core.Bool.{Bool, true, false, cond}
 use mathlib.Core.List.{List}
-use Prim.Native.Nat.{ℕ, zero, suc, _+_, _-_, _*_, _^_, _≤_, _<_}
+use Prim.Native.Nat.{ℕ, _-_, _≤_, _<_}
 use native.Mathlib.Nat.{lt-of-lt-of-le, le-of-eq}
 use native.Mathlib.Omega.{arith}
 use borrow.Author.Tests.{not-true}
@@ -11,21 +10,21 @@ use lib.ListN.{length, take}
 use lib.Pow.{pow-mono}
 use lib.Seq.{take-all, getD-take, length-take-le, ext-getD}
 use Rattle.algebra.specs.Bits.{bitAt, gf2, gf2-laws}
-use Rattle.algebra.specs.Echelon.{Echelon, Solves, Inside, dot, dot-cong, rest, entry-solves}
+use Rattle.algebra.specs.Echelon.{Inside, dot, dot-cong, rest, entry-solves}
 use Rattle.algebra.specs.Tabulate.{tabulate, tabulate-cong, length-tabulate, getD-tabulate}
 use Rattle.algebra.specs.Xor.{_⊕_, ⊕-lt}
-use Rattle.field.specs.Gf.{Width, gf}
-use Rattle.slices.specs.Lengths.{longest, longestLog}
-use Rattle.params.specs.Code.{Limits, Accepted, roots-fewer}
+use Rattle.field.specs.Gf.{Width}
+use Rattle.slices.specs.Lengths.{longest}
+use Rattle.params.specs.Code.{Limits, Accepted}
 use Rattle.params.specs.Tests.{entryOf}
-use Rattle.words.specs.Word.{whole, parityAt, syndromeOf, isCodeWord}
-use Rattle.words.specs.Columns.{count, chosen, isSum, isMessageColumn, rolesOf, dimension, messageOf, encodingOf}
-use Rattle.words.specs.Parity.{Checks, bitRow, bit-rows, parity-signature, signature-syndrome}
+use Rattle.words.specs.Word.{whole, syndromeOf}
+use Rattle.words.specs.Columns.{count, chosen, isMessageColumn, rolesOf, dimension, messageOf, encodingOf}
+use Rattle.words.specs.Parity.{bitRow, bit-rows, parity-signature, signature-syndrome}
 use Rattle.words.specs.Systematic.{Basis, sum-is-free}
-use Rattle.words.specs.Chosen.{free-count, chosen-tests, count-tests, chosen-cong, chosen-placed, length-chosen}
+use Rattle.words.specs.Chosen.{free-count, chosen-tests, count-tests, chosen-cong, chosen-placed}
 use Rattle.words.proofs.Eliminating.{count-le}
-use Rattle.words.specs.Encoding.{e, e-in, IsBits, code-checks, encoding-only}
-use Rattle.words.specs.Table.{rowBit, leadAt, freeAt, Room, Form, parityBit, ParityBasis, Reaches, Completed, signatureSum}
+use Rattle.words.specs.Encoding.{e, e-in, code-checks, encoding-only}
+use Rattle.words.specs.Table.{rowBit, leadAt, freeAt, parityBit, ParityBasis, Reaches, Completed, signatureSum}
 
 -- ---- the columns of the whole code
 

@@ -1,33 +1,33 @@
 -- Demand 2: "Encoding a message gives the one code word that carries it, and reading that word gives the message."
 --
 -- It holds for every list of columns, of every code over a field of the table.
-use mathlib.Core.Path.{_≡_, refl, sym, ap, ap₂, _∙_, subst, subst₂}
+use mathlib.Core.Path.{_≡_, sym, ap, ap₂, _∙_, subst, subst₂}
 use mathlib.Core.Logic.{_↔_}
-use mathlib.Core.Bool.{Bool, true, false, not, cond, _&&_}
+use mathlib.Core.Bool.{Bool, true, false, not, _&&_}
 use mathlib.Core.List.{List, []}
-use Prim.Native.Nat.{ℕ, zero, suc, _+_, _*_, _/_, _%_, _^_, _≤_, _<_}
+use Prim.Native.Nat.{ℕ, _+_, _*_, _/_, _%_, _^_, _<_}
 use native.Mathlib.Nat.{mod-lt, div-lt-iff-lt-mul, le-of-eq}
 use native.Mathlib.Omega.{arith}
 use lib.Arith.{digits-div, digits-mod, digits-lt}
 use lib.Dec.{eqb}
-use lib.ListN.{length, take}
+use lib.ListN.{length}
 use lib.Seq.{take-all, ext-getD}
 use borrow.Author.Tests.{eqb-true, eq-eqb, not-true}
-use Rattle.algebra.specs.All.{all, all-is, all-true, both-true}
+use Rattle.algebra.specs.All.{all-is, all-true, both-true}
 use Rattle.algebra.specs.Bits.{bitAt, bitAt-lt, numberOf, numberOf-lt, numberOf-bit, gf2, gf2-laws}
-use Rattle.algebra.specs.Echelon.{Echelon, Solves, Inside, dot, agree, solution}
+use Rattle.algebra.specs.Echelon.{Inside, dot, agree, solution}
 use Rattle.algebra.specs.Elimination.{echelon-form}
-use Rattle.algebra.specs.Sum.{sum, sum-cong}
+use Rattle.algebra.specs.Sum.{sum-cong}
 use Rattle.algebra.specs.Tabulate.{tabulate, length-tabulate, getD-tabulate, tabulate-cong, tabulate-getD}
 use Rattle.algebra.specs.Xor.{_⊕_}
-use Rattle.field.specs.Gf.{Width, gf, gf-laws, gf-isField}
+use Rattle.field.specs.Gf.{Width, gf, gf-laws}
 use Rattle.params.specs.Existence.{rootAt, supportAt}
 use Rattle.params.specs.Tests.{entryOf}
 use Rattle.words.specs.Word.{parityAt, held, syndromeAt, isCodeWord}
-use Rattle.words.specs.Columns.{count, chosen, wordOf, found, sameList, isSum, isMessageColumn, dimension, messageOf, encodingOf}
+use Rattle.words.specs.Columns.{count, wordOf, found, sameList, isSum, isMessageColumn, dimension, messageOf, encodingOf}
 use Rattle.words.specs.Parity.{Checks, bitRow, bit-rows}
 use Rattle.words.specs.Systematic.{Basis, sum-is-free}
-use Rattle.words.specs.Chosen.{length-chosen, chosen-cong, chosen-same, chosen-placed, found-passes, same-is, same}
+use Rattle.words.specs.Chosen.{chosen-cong, chosen-same, chosen-placed, found-passes, same-is, same}
 
 module _ (m t ω : ℕ) (h cols : List ℕ) (W : Width m) where
   abbrev pub n : ℕ

@@ -3,14 +3,14 @@
 use mathlib.Core.Path.{_≡_, sym, ap, ap₂, _∙_, subst, fun-ext}
 use mathlib.Core.Bool.{Bool, cond, _&&_}
 use mathlib.Core.List.{List}
-use Prim.Native.Nat.{ℕ, _*_, _^_, _≤_, _<_}
+use Prim.Native.Nat.{ℕ, _^_, _<_}
 use native.Mathlib.Nat.{lt-of-lt-of-le}
 use native.Mathlib.Omega.{arith}
 use lib.Dec.{eqb}
 use lib.ListN.{length}
 use Rattle.algebra.specs.All.{some, all-cong}
 use Rattle.algebra.specs.Bits.{bitAt}
-use Rattle.algebra.specs.Sum.{sum, sum-cong}
+use Rattle.algebra.specs.Sum.{sum-cong}
 use Rattle.algebra.specs.Tabulate.{tabulate-cong, getD-tabulate, length-tabulate}
 use Rattle.field.specs.Gf.{gf}
 use Rattle.params.specs.Code.{Accepted}

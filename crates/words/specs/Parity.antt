@@ -1,22 +1,19 @@
 -- The parity check matrix: its entries are the signature's, whatever the offset, and a word is a code word exactly if the rows of its bits say so.
-use mathlib.Core.Path.{_≡_, refl, sym, ap, ap₂, _∙_, subst}
+use mathlib.Core.Path.{_≡_, sym, ap, _∙_, subst}
 use mathlib.Core.Logic.{_↔_}
 use mathlib.Core.List.{List}
-use Prim.Native.Nat.{ℕ, zero, suc, _%_, _*_, _^_, _≤_, _<_}
+use Prim.Native.Nat.{ℕ, zero, suc, _%_, _^_, _<_}
 use native.Mathlib.Nat.{mul-zero, mul-one, mod-eq-of-lt}
 use native.Mathlib.Omega.{arith}
 use lib.ListN.{length}
 use lib.Pow.{pow-pos}
 use Rattle.algebra.specs.Bits.{bitAt, bitAt-lt, bitAt-⊕, bitAt-zero, bits-zero, gf2}
 use Rattle.algebra.specs.Echelon.{dot, Inside}
-use Rattle.algebra.specs.Field.{Ops, Laws}
 use Rattle.algebra.specs.Sum.{sum, sum-cong, in-sum}
 use Rattle.algebra.specs.Xor.{_⊕_, ⊕-lt}
 use Rattle.field.specs.Gf.{Width, gf, gf-laws}
 use Rattle.params.specs.Code.{Accepted}
 use Rattle.params.specs.Acceptance.{accepted-pair}
-use Rattle.params.specs.Existence.{rootAt, supportAt}
-use Rattle.params.specs.Signature.{Cauchy}
 use Rattle.params.specs.Tests.{entryOf}
 use Rattle.words.specs.Table.{signatureSum}
 use Rattle.words.specs.Word.{parityAt, held, syndromeAt}

@@ -1,18 +1,16 @@
 -- What an echelon basis of the parity rows tells: which columns are message columns, and that each message has exactly one code word.
-use mathlib.Core.Path.{_≡_, refl, sym, ap, ap₂, _∙_, subst}
-use mathlib.Core.Logic.{_↔_, _≢_}
-use mathlib.Core.Bool.{Bool, true, false, not, _&&_, cond, false≢true}
-use Prim.Native.Nat.{ℕ, zero, suc, _+_, _-_, _*_, _^_, _≤_, _<_}
+use mathlib.Core.Path.{_≡_, refl, sym, ap, ap₂, _∙_}
+use mathlib.Core.Logic.{_↔_}
+use mathlib.Core.Bool.{Bool, true, false, not}
+use Prim.Native.Nat.{ℕ, suc, _+_, _-_, _*_, _^_, _<_}
 use native.Mathlib.Nat.{lt-of-lt-of-le, le-of-lt}
-use native.Mathlib.Decide.{decLt, ℕ-discrete}
 use native.Mathlib.Omega.{arith}
 use lib.Dec.{eqb, lit<}
 use lib.Pow.{pow-mono}
 use borrow.Author.Tests.{eqb-true, eq-eqb}
-use Rattle.algebra.specs.All.{all, some, all-is, all-true, some-is, some-true, refuted}
+use Rattle.algebra.specs.All.{some, all-is, all-true, some-is, some-true, refuted}
 use Rattle.algebra.specs.Bits.{bitAt, bitAt-lt, bitAt-⊕, bitAt-small, shifted-at, shifted-other, numberOf, numberOf-lt, numberOf-bit, gf2, gf2-laws}
-use Rattle.algebra.specs.Echelon.{Echelon, Solves, Inside, agree, solution, last-free, last-led}
-use Rattle.algebra.specs.Field.{Ops, Laws, add-eq, add-nought}
+use Rattle.algebra.specs.Echelon.{Echelon, Solves, Inside, last-free, last-led}
 use Rattle.algebra.specs.Sum.{sum, sum-cong, sum-nought, sum-split}
 use Rattle.algebra.specs.Xor.{_⊕_, ⊕-self, ⊕-zero, zero-⊕, ⊕-eq}
 use Rattle.field.specs.Gf.{Width, gf, gf-laws}

@@ -1,7 +1,7 @@
 // Rows of bits packed into machine words: bit p of a row is bit p % 64 of its word p / 64.
 use slices::LONGEST;
 ghost use mathlib.Core.Path.{_≡_};
-ghost use Prim.Native.Nat.{ℕ, _*_, _<_};
+ghost use Prim.Native.Nat.{_*_, _<_};
 ghost use lib.ListN.{length};
 ghost use Rattle.words.specs.Packed.{packedBit, Added, Cleared, Marked};
 

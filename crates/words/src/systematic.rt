@@ -4,7 +4,7 @@ use crate::packed;
 use crate::packed::ROW;
 use field::Elem;
 ghost use mathlib.Core.Path.{_≡_};
-ghost use mathlib.Core.Bool.{cond, false};
+ghost use mathlib.Core.Bool.{cond};
 ghost use Prim.Native.Nat.{ℕ, _<_, _≤_, _^_};
 ghost use lib.ListN.{length};
 ghost use Rattle.algebra.specs.Bits.{gf2};
@@ -16,7 +16,7 @@ ghost use Rattle.field.specs.Gf.{Width, gf};
 ghost use Rattle.params.specs.Tests.{entryOf};
 ghost use Rattle.words.specs.Word.{held};
 ghost use Rattle.words.specs.Columns.{count, chosen};
-ghost use Rattle.words.specs.Table.{rowBit, leadAt, freeAt, placedAt, signatureSum, Form, Completed, Reaches};
+ghost use Rattle.words.specs.Table.{rowBit, freeAt, placedAt, signatureSum, Form, Completed, Reaches};
 
 // 1 at the places without a row, which are the message columns, and 0 at the others.
 pub fn roles(leads: &[u8], out: &mut [u8])

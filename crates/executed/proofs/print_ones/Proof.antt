@@ -1,7 +1,6 @@
 -- `print_ones` stays inside its slice, and ends.
 use mathlib.Core.Path.{_≡_}
 use Prim.Native.Nat.{_-_, _≤_}
-use native.Mathlib.Omega.{arith}
 use lib.ListN.{length}
 use borrow.Author.Needs.{needs}
 use Rattle.executed.proofs.print_ones.Statement.{statement}

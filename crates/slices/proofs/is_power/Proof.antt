@@ -5,7 +5,6 @@ use native.Mathlib.Omega.{arith}
 use lib.Pow.{pow-pos}
 use Rattle.slices.specs.Lengths.{longest}
 use Rattle.slices.proofs.Doubling.{Doubling, doubling-start, doubling-turn, doubling-end, too-long}
-use borrow.Author.Needs.{needs}
 use Rattle.slices.proofs.is_power.Statement.{statement}
 use Rattle.slices.proofs.is_power.Tie as tie
 

@@ -1,5 +1,5 @@
 -- `accepted_message` meets its contract: what is taken out stands at the message columns, whatever the offset.
-use mathlib.Core.Path.{_≡_, sym, ap, _∙_}
+use mathlib.Core.Path.{sym, ap, _∙_}
 use Prim.Native.Nat.{ℕ, _≤_}
 use native.Mathlib.Omega.{arith}
 use lib.ListN.{length}

@@ -1,5 +1,5 @@
 -- `message_basis` meets its contract: the number is that of the message's rules, whatever the offset.
-use mathlib.Core.Path.{_≡_, refl, sym, _∙_}
+use mathlib.Core.Path.{sym, _∙_}
 use native.Mathlib.Omega.{arith}
 use borrow.Author.Tests.{not-true, not-false}
 use lib.ListN.{length}

@@ -1,6 +1,5 @@
 -- `zov_block_sum` meets its contract: the outcome as a number, and the buffer as the call leaves it.
-use mathlib.Core.Path.{_≡_, ap, _∙_}
-use mathlib.Core.List.{List}
+use mathlib.Core.Path.{ap, _∙_}
 use Prim.Native.Nat.{ℕ}
 use Rattle.capi.specs.Wire.{coded, paired}
 use borrow.Author.Needs.{needs}

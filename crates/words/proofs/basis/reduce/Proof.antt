@@ -2,7 +2,6 @@
 use mathlib.Core.Path.{sym, _∙_}
 use native.Mathlib.Omega.{arith}
 use Rattle.words.proofs.Insertion.{part-length, reduced-part}
-use borrow.Author.Needs.{needs}
 use Rattle.words.proofs.basis.reduce.Statement.{statement}
 use Rattle.words.proofs.basis.reduce.Tie as tie
 

@@ -3,7 +3,6 @@ use mathlib.Core.Path.{sym, _∙_}
 use native.Mathlib.Omega.{arith}
 use lib.ListN.{length-set}
 use Rattle.words.proofs.Insertion.{part-length, stored-part}
-use borrow.Author.Needs.{needs}
 use Rattle.words.proofs.basis.store.Statement.{statement}
 use Rattle.words.proofs.basis.store.Tie as tie
 
