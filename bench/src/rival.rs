@@ -199,7 +199,7 @@ impl Code<'_> {
         pairs[0][0][0] = 1;
         pairs[1][1][0] = 1;
         let mut degrees = [0, 1];
-        let lengths = |degree: usize| [degree / 2 + 1, (degree + 1) / 2];
+        let lengths = |degree: usize| [degree / 2 + 1, degree.div_ceil(2)];
         for i in 0..t {
             let (z, s) = (inverses[i] ^ self.omega, syndrome[i]);
             let y = self.field.product(z, z);

@@ -18,140 +18,54 @@ pub struct Code<'a> {
     pub h: &'a [Elem],
 }
 
+/// Calls a function of the library for a code. Further arguments are numbers, or a slice as its pointer and its length.
+macro_rules! call {
+    ($code:expr, $function:ident $(, $argument:expr)*) => {
+        // SAFETY: each pointer goes with the length of its slice, and no slice that is written overlaps another: it is
+        // borrowed as mutable.
+        unsafe {
+            c::$function($code.m, $code.n, $code.t, $code.omega, $code.h.as_ptr(), $code.h.len() $(, $argument)*)
+        }
+    };
+}
+
 impl Code<'_> {
     /// Whether the code is accepted; then its roots and its support are in the buffers, n elements each.
     pub fn check(&self, roots: &mut [Elem], support: &mut [Elem]) -> Result<(), Refusal> {
-        // SAFETY: each pointer goes with the length of its slice, and no slice that is written overlaps another.
-        done(unsafe {
-            c::zov_check(
-                self.m,
-                self.n,
-                self.t,
-                self.omega,
-                self.h.as_ptr(),
-                self.h.len(),
-                roots.as_mut_ptr(),
-                roots.len(),
-                support.as_mut_ptr(),
-                support.len(),
-            )
-        })
+        done(call!(self, zov_check, roots.as_mut_ptr(), roots.len(), support.as_mut_ptr(), support.len()))
     }
 
     /// Whether m, n, t and h of two codes agree. Refused by the lower number of both codes.
     pub fn same(&self, other: &Code<'_>) -> Result<bool, Refusal> {
-        // SAFETY: each pointer goes with the length of its slice, and both are only read.
-        let same = answer(unsafe {
-            c::zov_same(
-                self.m,
-                self.n,
-                self.t,
-                self.omega,
-                self.h.as_ptr(),
-                self.h.len(),
-                other.m,
-                other.n,
-                other.t,
-                other.omega,
-                other.h.as_ptr(),
-                other.h.len(),
-            )
-        })?;
+        let (h, length) = (other.h.as_ptr(), other.h.len());
+        let same = answer(call!(self, zov_same, other.m, other.n, other.t, other.omega, h, length))?;
         Ok(same == 1)
     }
 
     /// 1 for each message column and 0 for each check column, n bytes; gives k, the number of message columns.
     pub fn roles(&self, roles: &mut [u8]) -> Result<u32, Refusal> {
-        // SAFETY: each pointer goes with the length of its slice, and no slice that is written overlaps another.
-        answer(unsafe {
-            c::zov_roles(
-                self.m,
-                self.n,
-                self.t,
-                self.omega,
-                self.h.as_ptr(),
-                self.h.len(),
-                roles.as_mut_ptr(),
-                roles.len(),
-            )
-        })
+        answer(call!(self, zov_roles, roles.as_mut_ptr(), roles.len()))
     }
 
     /// The syndrome of a word of n bytes, t elements. Refused by 1 to 8.
     pub fn syndrome(&self, word: &[u8], out: &mut [Elem]) -> Result<(), Refusal> {
-        // SAFETY: each pointer goes with the length of its slice, and no slice that is written overlaps another.
-        done(unsafe {
-            c::zov_syndrome(
-                self.m,
-                self.n,
-                self.t,
-                self.omega,
-                self.h.as_ptr(),
-                self.h.len(),
-                word.as_ptr(),
-                word.len(),
-                out.as_mut_ptr(),
-                out.len(),
-            )
-        })
+        done(call!(self, zov_syndrome, word.as_ptr(), word.len(), out.as_mut_ptr(), out.len()))
     }
 
     /// The code word that carries a message of k bytes. Refused by 1 to 7, 2 (the message's length), 8.
     pub fn encode(&self, message: &[u8], word: &mut [u8]) -> Result<(), Refusal> {
-        // SAFETY: each pointer goes with the length of its slice, and no slice that is written overlaps another.
-        done(unsafe {
-            c::zov_encode(
-                self.m,
-                self.n,
-                self.t,
-                self.omega,
-                self.h.as_ptr(),
-                self.h.len(),
-                message.as_ptr(),
-                message.len(),
-                word.as_mut_ptr(),
-                word.len(),
-            )
-        })
+        done(call!(self, zov_encode, message.as_ptr(), message.len(), word.as_mut_ptr(), word.len()))
     }
 
     /// The k bytes of a word at the message columns. Refused by 1 to 7, 2 (the message's length), 8.
     pub fn message(&self, word: &[u8], message: &mut [u8]) -> Result<(), Refusal> {
-        // SAFETY: each pointer goes with the length of its slice, and no slice that is written overlaps another.
-        done(unsafe {
-            c::zov_message(
-                self.m,
-                self.n,
-                self.t,
-                self.omega,
-                self.h.as_ptr(),
-                self.h.len(),
-                word.as_ptr(),
-                word.len(),
-                message.as_mut_ptr(),
-                message.len(),
-            )
-        })
+        done(call!(self, zov_message, word.as_ptr(), word.len(), message.as_mut_ptr(), message.len()))
     }
 
     /// The code word that differs from the word received in at most t places, and the number of those places. Refused
     /// by 1 to 8, and by 10 exactly if there is no such code word.
     pub fn repair(&self, received: &[u8], repaired: &mut [u8]) -> Result<u32, Refusal> {
-        // SAFETY: each pointer goes with the length of its slice, and no slice that is written overlaps another.
-        answer(unsafe {
-            c::zov_repair(
-                self.m,
-                self.n,
-                self.t,
-                self.omega,
-                self.h.as_ptr(),
-                self.h.len(),
-                received.as_ptr(),
-                received.len(),
-                repaired.as_mut_ptr(),
-                repaired.len(),
-            )
-        })
+        answer(call!(self, zov_repair, received.as_ptr(), received.len(), repaired.as_mut_ptr(), repaired.len()))
     }
 
     /// The word of a row. Refused by 1 to 7, 12, 11.
@@ -161,40 +75,19 @@ impl Code<'_> {
 
     /// The same for a gear and a lamp as numbers: 0 is dark, 1 green, 2 amber, and any other refused by 11.
     pub fn write_numbers(&self, gear: u32, lamp: u32, word: &mut [u8]) -> Result<(), Refusal> {
-        // SAFETY: each pointer goes with the length of its slice, and no slice that is written overlaps another.
-        done(unsafe {
-            c::zov_write_row(
-                self.m,
-                self.n,
-                self.t,
-                self.omega,
-                self.h.as_ptr(),
-                self.h.len(),
-                gear,
-                lamp,
-                word.as_mut_ptr(),
-                word.len(),
-            )
-        })
+        done(call!(self, zov_write_row, gear, lamp, word.as_mut_ptr(), word.len()))
     }
 
     /// The row that the word received carries once it is repaired, into `repaired`. Refused by 1 to 7, 12, 8, 10, 11.
     pub fn read_row(&self, received: &[u8], repaired: &mut [u8]) -> Result<Reading, Refusal> {
-        // SAFETY: each pointer goes with the length of its slice, and no slice that is written overlaps another.
-        let value = answer(unsafe {
-            c::zov_read_row(
-                self.m,
-                self.n,
-                self.t,
-                self.omega,
-                self.h.as_ptr(),
-                self.h.len(),
-                received.as_ptr(),
-                received.len(),
-                repaired.as_mut_ptr(),
-                repaired.len(),
-            )
-        })?;
+        let value = answer(call!(
+            self,
+            zov_read_row,
+            received.as_ptr(),
+            received.len(),
+            repaired.as_mut_ptr(),
+            repaired.len()
+        ))?;
         Ok(Reading::of(value))
     }
 }

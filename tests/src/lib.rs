@@ -1,11 +1,12 @@
 //! A second implementation of the coded gear rows, written from the definitions alone and by other algorithms than
 //! the product's, and what is needed to compare every public call of the product with it.
 //!
-//! `reference` is the second implementation, `library` the product through its Rust crate; `random` and `draw` make the inputs, and
-//! `canary` lends the buffers and sees what became of them.
+//! `reference` is the second implementation, `library` the product through its Rust crate; `random`, `draw` and `bits` make the inputs,
+//! and `canary` lends the buffers and sees what became of them.
 //!
 //! `ZOV_SEED` in the environment replaces the seeds of all tests.
 
+pub mod bits;
 pub mod canary;
 pub mod draw;
 pub mod library;

@@ -4,6 +4,7 @@
 //! The environment variable `ZOV_REPAIR_WORDS` gives the number of random words, 100,000 without it.
 
 use std::ops::RangeInclusive;
+use zovunelith_tests::bits::{ones_at, turned, BAD_BYTES};
 use zovunelith_tests::canary::Lent;
 use zovunelith_tests::draw::{self, CodeFault};
 use zovunelith_tests::library::repair as library;
@@ -13,22 +14,8 @@ use zovunelith_tests::reference::params::{code_a, code_t, Params};
 use zovunelith_tests::reference::repair::{self as reference, distance, Decoder};
 use zovunelith_tests::reference::words::Code;
 
-/// Bytes that are no bits.
-const BAD_BYTES: [u8; 6] = [2, 3, 48, 128, 254, 255];
-
 /// A repaired word and its count, or a number.
 type Answer = Result<(Vec<u8>, u32), u32>;
-
-fn ones_at(n: usize, places: &[usize]) -> Vec<u8> {
-    (0..n).map(|place| u8::from(places.contains(&place))).collect()
-}
-
-/// The word with these places turned.
-fn turned(word: &[u8], places: &[usize]) -> Vec<u8> {
-    let mut word = word.to_vec();
-    places.iter().for_each(|&place| word[place] ^= 1);
-    word
-}
 
 fn decoder(random: &mut Random, m: u32, n: u32, t: u32) -> Decoder {
     Decoder::new(Code::new(&draw::params(random, m, n, t)))

@@ -1,5 +1,6 @@
 //! Writing and reading gear rows, against the list of allowed rows.
 
+use zovunelith_tests::bits::{ones_at, turned, BAD_BYTES};
 use zovunelith_tests::canary::Lent;
 use zovunelith_tests::draw;
 use zovunelith_tests::library::rows as library;
@@ -10,26 +11,12 @@ use zovunelith_tests::reference::repair::Decoder;
 use zovunelith_tests::reference::rows::{self as reference, Read, Row};
 use zovunelith_tests::reference::words::Code;
 
-/// Bytes that are no bits.
-const BAD_BYTES: [u8; 6] = [2, 3, 48, 128, 254, 255];
-
 /// Gears and lamps of every kind, among them ones that a cut to fewer bits would bring back in.
 const GEARS: [u32; 14] = [0, 1, 2, 3, 4, 5, 6, 7, 8, 9, 256, 256 + 1, 65536, u32::MAX];
 const LAMPS: [u32; 10] = [0, 1, 2, 3, 4, 8, 256, 256 + 2, 1 << 31, u32::MAX];
 
 fn numbers(params: &Params) -> (u32, u32, u32, u32) {
     (params.m, params.n, params.t, params.omega)
-}
-
-fn ones_at(n: usize, places: &[usize]) -> Vec<u8> {
-    (0..n).map(|place| u8::from(places.contains(&place))).collect()
-}
-
-/// The word with these places turned.
-fn turned(word: &[u8], places: &[usize]) -> Vec<u8> {
-    let mut word = word.to_vec();
-    places.iter().for_each(|&place| word[place] ^= 1);
-    word
 }
 
 /// A code of this shape.

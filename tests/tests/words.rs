@@ -1,5 +1,6 @@
 //! Roles, syndromes, encoding and taking the message out, against row reduction of the parity matrix.
 
+use zovunelith_tests::bits::{ones_at, BAD_BYTES};
 use zovunelith_tests::canary::Lent;
 use zovunelith_tests::draw::{self, CodeFault};
 use zovunelith_tests::library::words as library;
@@ -9,15 +10,8 @@ use zovunelith_tests::reference::params::{code_a, code_t, Params};
 use zovunelith_tests::reference::words::{self as reference, Code};
 use zovunelith_tests::Elem;
 
-/// Bytes that are no bits.
-const BAD_BYTES: [u8; 6] = [2, 3, 48, 128, 254, 255];
-
 fn numbers(params: &Params) -> (u32, u32, u32, u32) {
     (params.m, params.n, params.t, params.omega)
-}
-
-fn ones_at(n: usize, places: &[usize]) -> Vec<u8> {
-    (0..n).map(|place| u8::from(places.contains(&place))).collect()
 }
 
 /// Asks for the roles with canaries around every buffer; answer and buffers are to be those of `expected`.

@@ -14,14 +14,14 @@ pub const WIDEST: u32 = 8;
 // The reduction word of each width, at the width: bit i is the coefficient of u^i. There is none for widths 0 and 1.
 const WORDS: [u32; WIDEST as usize + 1] = [0, 0, 0x7, 0xB, 0x13, 0x25, 0x43, 0x83, 0x11D];
 
-// u times an element: shifted, and the word taken away once if the bit of u^m ran over. There is no branch, so that every product takes the
+// u times an element: shifted, and the width's word taken away once if the bit of u^m ran over. There is no branch, so that every product takes the
 // same steps.
-fn times_u(m: u32, a: u32) -> u32
-    requires { ⌜ Width m × (a < 2 ^ m) ⌝ }
+fn times_u(m: u32, reduction: u32, a: u32) -> u32
+    requires { ⌜ Width m × (reduction ≡ word m) × (a < 2 ^ m) ⌝ }
     ensures { λ r. ⌜ (r ≡ timesU m (word m) a) × (r < 2 ^ m) ⌝ }
 {
     let shifted = a * 2;
-    shifted ^ (shifted >> m) * WORDS[m as usize]
+    shifted ^ (shifted >> m) * reduction
 }
 
 // a·b: the sum of a·u^i over the bits i of b.
@@ -29,12 +29,13 @@ pub fn product(m: u32, a: Elem, b: Elem) -> Elem
     requires { ⌜ Width m × (a < 2 ^ m) × (b < 2 ^ m) ⌝ }
     ensures { λ r. ⌜ (r ≡ product m (word m) a b) × (r < 2 ^ m) ⌝ }
 {
+    let reduction = WORDS[m as usize];
     let mut sum: u32 = 0;
     let mut shifted = a as u32;
     let mut bits = b as u32;
     for _ in 0..m {
         sum ^= bits % 2 * shifted;
-        shifted = times_u(m, shifted);
+        shifted = times_u(m, reduction, shifted);
         bits /= 2;
     }
     sum as Elem

@@ -214,16 +214,9 @@ pub fn repair(params: &Params, received: &[u8], repaired_length: usize) -> Resul
 mod tests {
     use super::params::{code_a, code_t};
     use super::*;
+    use crate::bits::{ones_at, turned};
     use crate::draw;
     use crate::random::Random;
-
-    fn ones_at(n: usize, places: &[usize]) -> Vec<u8> {
-        (0..n).map(|place| u8::from(places.contains(&place))).collect()
-    }
-
-    fn turned(word: &[u8], places: &[usize]) -> Vec<u8> {
-        (0..word.len()).map(|place| word[place] ^ u8::from(places.contains(&place))).collect()
-    }
 
     #[test]
     fn cases() {

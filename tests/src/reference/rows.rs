@@ -78,10 +78,7 @@ pub fn read(params: &Params, received: &[u8], repaired_length: usize) -> Result<
 mod tests {
     use super::params::{code_a, code_t};
     use super::*;
-
-    fn ones_at(n: usize, places: &[usize]) -> Vec<u8> {
-        (0..n).map(|place| u8::from(places.contains(&place))).collect()
-    }
+    use crate::bits::ones_at;
 
     #[test]
     fn cases() {

@@ -152,13 +152,10 @@ pub fn message(params: &Params, word: &[u8], message_length: usize) -> Result<Ve
 mod tests {
     use super::params::{code_a, code_t};
     use super::*;
+    use crate::bits::ones_at;
     use crate::draw;
     use crate::random::Random;
     use std::collections::HashSet;
-
-    fn ones_at(n: usize, places: &[usize]) -> Vec<u8> {
-        (0..n).map(|place| u8::from(places.contains(&place))).collect()
-    }
 
     #[test]
     fn cases() {

@@ -1,10 +1,10 @@
 -- `internal::product` meets its contract. The loop's invariant: what is gathered, and what the bits left still add, is the product.
 use Prim.Native.Nat.{ℕ, _+_, _-_, _*_, _/_, _%_}
-use mathlib.Core.Path.{sym, subst}
+use mathlib.Core.Path.{_≡_, refl, sym, subst}
 use native.Mathlib.Omega.{arith}
 use borrow.Author.Needs.{needs}
 use Rattle.algebra.specs.Xor.{_⊕_}
-use Rattle.field.specs.Words.{word}
+use Rattle.field.specs.Words.{words, word}
 use Rattle.field.specs.Ring.{bit-lt}
 use Rattle.field.specs.Gf.{Width, gf-isField}
 use Rattle.field.proofs.Shift.{element-fits, Gathering, gather-start, gather-turn, gather-end}
@@ -12,13 +12,21 @@ use Rattle.field.proofs.internal.product.Statement.{statement}
 use Rattle.field.proofs.internal.product.Tie as tie
 
 abbrev Inv-loop : tie.InvT-loop
-Inv-loop m a b sum₀ shifted₀ bits₀ counter₀ sum shifted bits counter = (W : Width m) × Gathering m W a b sum shifted bits counter
+Inv-loop m a b reduction sum₀ shifted₀ bits₀ counter₀ sum shifted bits counter =
+    (W : Width m) × Gathering m W a b sum shifted bits counter × (reduction ≡ word m)
 
 abbrev μ-loop : tie.MeasureT-loop
-μ-loop m a b sum₀ shifted₀ bits₀ counter₀ sum shifted bits counter = m - counter
+μ-loop m a b reduction sum₀ shifted₀ bits₀ counter₀ sum shifted bits counter = m - counter
+
+mul-reduction : tie.Need-mul-reduction Inv-loop μ-loop
+mul-reduction c = search needs
+
+array-read-reduction : tie.Need-array-read-reduction Inv-loop μ-loop
+array-read-reduction c = search needs
 
 loop-holds : tie.Need-loop-holds Inv-loop μ-loop
-loop-holds c = (c .pre .0, gather-start (c .args .m) (c .pre .0) (c .args .a) (c .args .b) (c .pre .1))
+unfolding words word
+loop-holds c = (c .pre .0, gather-start (c .args .m) (c .pre .0) (c .args .a) (c .args .b) (c .pre .1), refl)
 
 mul-sum : tie.Need-mul-sum Inv-loop μ-loop
 mul-sum c =
@@ -31,7 +39,7 @@ mul-sum c =
     )
 
 times-u-requires : tie.Need-times-u-requires Inv-loop μ-loop
-times-u-requires c κs = (c .before .loop .inv .0, c .before .loop .inv .1 .shifted-lt)
+times-u-requires c κs = (c .before .loop .inv .0, c .before .loop .inv .2, c .before .loop .inv .1 .shifted-lt)
 
 add-counter : tie.Need-add-counter Inv-loop μ-loop
 add-counter c = search needs
@@ -49,6 +57,7 @@ loop-again c =
       l .inv .0,
       subst (λ (x : ℕ). Gathering m (l .inv .0) a b (l .sum ⊕ l .bits % 2 * l .shifted) x (l .bits / 2) (l .counter + 1)) (sym (c .times-u .ensures .0))
           (gather-turn m (l .inv .0) a b (l .sum) (l .shifted) (l .bits) (l .counter) (c .before .loop-test .taken) (l .inv .1)),
+      l .inv .2,
     )
 
 cast-result : tie.Need-cast-result Inv-loop μ-loop
@@ -71,6 +80,8 @@ product-spec =
     (tie.spec
     Inv-loop
     μ-loop
+    mul-reduction
+    array-read-reduction
     loop-holds
     mul-sum
     times-u-requires

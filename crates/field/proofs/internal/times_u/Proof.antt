@@ -1,9 +1,10 @@
 -- `internal::times_u` meets its contract: the carry is 0 or 1, so the word is taken away no time or once, and nothing overflows.
-use Prim.Native.Nat.{ℕ, _<_, _^_}
+use mathlib.Core.Path.{_≡_, sym, ap, _∙_, subst}
+use Prim.Native.Nat.{ℕ, suc, _*_, _/_, _<_, _^_}
 use native.Mathlib.Omega.{arith}
+use lib.Bits.{bitXor}
 use borrow.Author.Needs.{needs}
-use mathlib.Core.Path.{sym, subst}
-use Rattle.field.specs.Words.{words, word}
+use Rattle.field.specs.Words.{widest, word}
 use Rattle.field.specs.Ring.{timesU-lt}
 use Rattle.field.specs.Gf.{gf-isField}
 use Rattle.field.proofs.Shift.{element-fits, carry-fits, shift-step}
@@ -11,28 +12,24 @@ use Rattle.field.proofs.internal.times_u.Statement.{statement}
 use Rattle.field.proofs.internal.times_u.Tie as tie
 
 mul-shifted : tie.Need-mul-shifted
-mul-shifted c = omega (arith, element-fits (c .args .m) (c .pre .0) (c .args .a) (c .pre .1))
+mul-shifted c = omega (arith, element-fits (c .args .m) (c .pre .0) (c .args .a) (c .pre .2))
 
 shr-result : tie.Need-shr-result
 shr-result c = search needs
 
 mul-result : tie.Need-mul-result
-mul-result c = search needs
-
-array-read-result : tie.Need-array-read-result
-array-read-result c = search needs
-
-mul-result-2 : tie.Need-mul-result-2
-unfolding words word
-mul-result-2 c = omega (arith, carry-fits (c .args .m) (c .pre .0) (c .args .a) (c .pre .1))
+mul-result c =
+    let carry = c .args .a * 2 / 2 ^ c .args .m in
+    let fits : carry * c .args .reduction < 2 ^ suc widest =
+    subst (λ (w : ℕ). carry * w < 2 ^ suc widest) (sym (c .pre .1)) (carry-fits (c .args .m) (c .pre .0) (c .args .a) (c .pre .2)) in
+    omega arith
 
 returns : tie.Need-returns
-unfolding words word
 returns c =
     let m = c .args .m in
     let a = c .args .a in
-    let step = shift-step m (c .pre .0) a (c .pre .1) in
-    (step, subst (λ (x : ℕ). x < 2 ^ m) (sym step) (timesU-lt m (word m) (gf-isField m (c .pre .0) .degree) a (c .pre .1)))
+    let step = ap (λ (w : ℕ). bitXor (a * 2) (a * 2 / 2 ^ m * w)) (c .pre .1) ∙ shift-step m (c .pre .0) a (c .pre .2) in
+    (step, subst (λ (x : ℕ). x < 2 ^ m) (sym step) (timesU-lt m (word m) (gf-isField m (c .pre .0) .degree) a (c .pre .2)))
 
 pub times-u-spec : {M : Type 1} → statement M
-times-u-spec = tie.close (tie.spec mul-shifted shr-result mul-result array-read-result mul-result-2 returns)
+times-u-spec = tie.close (tie.spec mul-shifted shr-result mul-result returns)

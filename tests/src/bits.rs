@@ -1,0 +1,16 @@
+//! Words of bits, and bytes that are none.
+
+/// Bytes that are no bits.
+pub const BAD_BYTES: [u8; 6] = [2, 3, 48, 128, 254, 255];
+
+/// The word of n bits that holds 1 at these places.
+pub fn ones_at(n: usize, places: &[usize]) -> Vec<u8> {
+    (0..n).map(|place| u8::from(places.contains(&place))).collect()
+}
+
+/// The word with these places turned.
+pub fn turned(word: &[u8], places: &[usize]) -> Vec<u8> {
+    let mut word = word.to_vec();
+    places.iter().for_each(|&place| word[place] ^= 1);
+    word
+}
