@@ -9,3 +9,4 @@ pub mod All
 pub mod Echelon
 pub mod Elimination
 pub mod Locator
+pub mod Product

@@ -90,6 +90,18 @@ module _ {A : Type 0} where
       together : i + (j - i) ≡ j
       together = omega arith
 
+  -- a second loop over the same places leaves nothing of the first
+  pub filled-again : (f g : ℕ → A) (n : ℕ) (old : List A) (d : A) → n ≤ length old → filled f n (filled g n old) ≡ filled f n old
+  filled-again f g n old d l =
+      let first : length (filled g n old) ≡ length old = length-filled g n old l in
+      let second : length (filled f n (filled g n old)) ≡ length (filled g n old) = length-filled f n (filled g n old) (omega arith) in
+      ext-getD d (filled f n (filled g n old)) (filled f n old) (second ∙ first ∙ sym (length-filled f n old l)) (λ j lj. at j (decLt j n))
+    where
+      at : (j : ℕ) → Dec (j < n) → getD (filled f n (filled g n old)) j d ≡ getD (filled f n old) j d
+      at j (yes lj) = getD-stored f n (filled g n old) j d lj ∙ sym (getD-stored f n old j d lj)
+      at j (no nl) =
+          getD-filled f n (filled g n old) j d (omega arith) ∙ getD-filled g n old j d (omega arith) ∙ sym (getD-filled f n old j d (omega arith))
+
   -- ---- the same as an invariant: `now` is what the loop has made of `old`, of n entries, when i are filled
 
   pub record Filling (f : ℕ → A) (n : ℕ) (old now : List A) (i : ℕ) : Type 0 where

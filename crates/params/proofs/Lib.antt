@@ -4,3 +4,4 @@ pub mod Flags
 pub mod Inverses
 pub mod Faults
 pub mod Stored
+pub mod Inverting

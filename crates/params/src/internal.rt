@@ -1,13 +1,16 @@
 // The tests of a code's parameters, for every call that is handed some: the number that refuses them, or 0. And the roots and the support of a
 // code that passes them.
 use field::Elem;
+use field::internal::inverse;
+use field::internal::product;
 use slices::LONGEST;
 ghost use mathlib.Core.Path.{_≡_};
 ghost use mathlib.Core.Bool.{true};
-ghost use Prim.Native.Nat.{_≤_, _<_};
+ghost use Prim.Native.Nat.{_≤_, _<_, _^_};
 ghost use lib.ListN.{length};
 ghost use Rattle.algebra.specs.Tabulate.{tabulate, filled};
-ghost use Rattle.field.specs.Gf.{Width};
+ghost use Rattle.algebra.specs.Product.{prod};
+ghost use Rattle.field.specs.Gf.{Width, gf};
 ghost use Rattle.field.specs.Rules.{fault};
 ghost use Rattle.slices.specs.Lengths.{longest, isPower};
 ghost use Rattle.slices.specs.Elements.{allElements};
@@ -113,7 +116,8 @@ fn no_zero(h: &[Elem]) -> bool
 
 // 01's rule for 1/h. The inverses are computed once.
 fn is_linear(m: u32, h: &[Elem], inverses: &mut [Elem]) -> bool
-    requires { ⌜ Width m × (allElements m (now h) ≡ true) × (isPower (length (now h)) ≡ true) × (length (now h) ≤ length (now inverses)) ⌝ }
+    requires { ⌜ Width m × (allElements m (now h) ≡ true) × (noZero (length (now h)) (now h) ≡ true) ⌝ }
+    requires { ⌜ (isPower (length (now h)) ≡ true) × (length (now h) ≤ length (now inverses)) ⌝ }
     ensures { λ r. ⌜ r ≡ linear m (length (now (h .entry))) (now (h .entry)) ⌝ }
     ensures { λ _. ⌜ now (inverses .exit) ≡ filled (inverseAt m (now (h .entry))) (length (now (h .entry))) (now (inverses .entry)) ⌝ }
 {
@@ -121,14 +125,34 @@ fn is_linear(m: u32, h: &[Elem], inverses: &mut [Elem]) -> bool
     is_affine(h.len(), inverses)
 }
 
-// The inverses of the entries, at their places.
+// The inverses of the entries, at their places, for the cost of one inverse: with P_i the product of the entries before place i, 1/h_i is
+// P_i · 1/P_(i+1), and 1/P_i is 1/P_(i+1) · h_i.
 fn invert(m: u32, h: &[Elem], inverses: &mut [Elem])
-    requires { ⌜ Width m × (allElements m (now h) ≡ true) × (length (now h) ≤ length (now inverses)) ⌝ }
+    requires { ⌜ Width m × (allElements m (now h) ≡ true) × (noZero (length (now h)) (now h) ≡ true) × (length (now h) ≤ length (now inverses)) ⌝ }
     ensures { λ _. ⌜ now (inverses .exit) ≡ filled (inverseAt m (now (h .entry))) (length (now (h .entry))) (now (inverses .entry)) ⌝ }
 {
-    for i in 0..h.len() {
-        inverses[i] = field::internal::inverse(m, h[i]);
+    let all = multiply(m, h, inverses);
+    let mut rest = inverse(m, all);
+    let mut i = h.len();
+    while 0 < i {
+        i -= 1;
+        inverses[i] = product(m, inverses[i], rest);
+        rest = product(m, rest, h[i]);
     }
+}
+
+// The product of the entries before each place, at the place, and the product of all.
+fn multiply(m: u32, h: &[Elem], products: &mut [Elem]) -> Elem
+    requires { ⌜ Width m × (allElements m (now h) ≡ true) × (length (now h) ≤ length (now products)) ⌝ }
+    ensures { λ r. ⌜ (r ≡ prod (gf m) (length (now (h .entry))) (entryOf (now (h .entry)))) × (r < 2 ^ m) ⌝ }
+    ensures { λ _. ⌜ now (products .exit) ≡ filled (λ i. prod (gf m) i (entryOf (now (h .entry)))) (length (now (h .entry))) (now (products .entry)) ⌝ }
+{
+    let mut before: Elem = 1;
+    for i in 0..h.len() {
+        products[i] = before;
+        before = product(m, before, h[i]);
+    }
+    before
 }
 
 // The rule at every pair, i from 0 and, for each i, j from 0, up to the first pair that breaks it.

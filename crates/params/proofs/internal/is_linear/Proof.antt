@@ -18,7 +18,7 @@ returns c =
     let d = c .before .before .before .before in
     let s = d .before .before .before .before in
     let a = s .args in (
-      rule-tested (a .m) (a .h .now) (s .pre .2) (d .invert .last .1 .1 .0) (a .inverses .now) (d .invert .ensures) (c .is-affine .ensures),
+      rule-tested (a .m) (a .h .now) (s .pre .1 .0) (d .invert .last .1 .1 .0) (a .inverses .now) (d .invert .ensures) (c .is-affine .ensures),
       d .invert .ensures,
     )
 

@@ -17,7 +17,9 @@ unfolding signatureRules
 returns c = (sym (fault-here 4 _ (failed (c .before .no-zero .ensures) (c .if1 .taken))), λ z. absurd (omega arith))
 
 is-linear-requires : tie.Need-is-linear-requires
-is-linear-requires c κs = search needs
+is-linear-requires c κs =
+    let s = c .before .before .before .before .before in
+    ((s .pre .0, s .pre .1, passed (c .before .before .no-zero .ensures) (c .before .if1 .left)), (s .pre .2, s .pre .3))
 
 same-length : tie.Need-same-length
 same-length c = search needs
