@@ -1,32 +1,20 @@
--- The numbers of rows that are read, and that these fit into 32 bits.
+-- The number of a row that was read, as `reading_code` adds it up.
 use mathlib.Core.Path.{_≡_, sym, ap, _∙_}
-use mathlib.Core.List.{List}
-use Prim.Native.Nat.{ℕ, _+_, _*_, _≤_}
+use Prim.Native.Nat.{ℕ, _+_, _*_, _%_, _^_}
 use native.Mathlib.Omega.{arith}
-use Rattle.slices.specs.Lengths.{longest}
-use Rattle.params.specs.Code.{power-short}
 use Rattle.rows.specs.declared.Reading.{Reading}
-use Rattle.rows.specs.declared.Reading.the-variants.{Read, Refused}
+use Rattle.rows.specs.declared.Reading.the-variants.{Read}
 use Rattle.rows.specs.declared.Row.{Row}
-use Rattle.rows.specs.Answers.{readAnswer}
-use Rattle.rows.specs.Laws.{read-allowed, read-within}
-use Rattle.rows.specs.Messages.{row-gear}
 use Rattle.rows.specs.Rows.{lampNumber}
-use Rattle.capi.specs.Wire.{readingCode, Small}
+use Rattle.capi.specs.Wire.{readingCode}
 
--- the number of a row that was read
-pub as-read : {reading : Reading} {row : Row} {count lamp : ℕ} → reading ≡ Read row count → lamp ≡ lampNumber (row .lamp)
-    → row .gear + 8 * lamp + 32 * count ≡ readingCode reading
-as-read {row = row} {count = count} e lamp-is = ap (λ (l : ℕ). row .gear + 8 * l + 32 * count) lamp-is ∙ ap readingCode (sym e)
+-- parts that wrap add up to the whole that wraps
+wrapped : (gear lamp count shown number : ℕ) → shown ≡ (gear + 8 * lamp) % 2 ^ 32 → number ≡ (shown + count * 32 % 2 ^ 32) % 2 ^ 32
+    → number ≡ (gear + 8 * lamp + 32 * count) % 2 ^ 32
+wrapped gear lamp count shown number s e = omega arith
 
-pub reading-small : (m n t ω : ℕ) (h received repaired : List ℕ) {reading : Reading} → reading ≡ readAnswer m n t ω h received repaired → Small reading
-reading-small m n t ω h received repaired {reading} = by-case reading
-  where
-    by-case : (reading : Reading) → reading ≡ readAnswer m n t ω h received repaired → Small reading
-    by-case (Read row count) e =
-        let (A, within) = read-within m n t ω h received repaired row count (sym e) in
-        let short : n ≤ longest = power-short n (A .limits .e) (A .limits .n-high) (A .limits .n-power) in (
-          row-gear (row .gear) (lampNumber (row .lamp)) (read-allowed m n t ω h received repaired row count (sym e)),
-          omega (arith, A .limits .t-high),
-        )
-    by-case (Refused k) e = tt
+pub as-read : {reading : Reading} {row : Row} {count lamp shown number : ℕ} → reading ≡ Read row count → lamp ≡ lampNumber (row .lamp)
+    → shown ≡ (row .gear + 8 * lamp) % 2 ^ 32 → number ≡ (shown + count * 32 % 2 ^ 32) % 2 ^ 32 → number ≡ readingCode reading
+as-read {row = row} {count = count} {lamp = lamp} {shown = shown} {number = number} e lamp-is s q =
+    wrapped (row .gear) lamp count shown number s q
+    ∙ ap (λ (l : ℕ). (row .gear + 8 * l + 32 * count) % 2 ^ 32) lamp-is ∙ ap readingCode (sym e)

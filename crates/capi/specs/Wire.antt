@@ -1,7 +1,7 @@
 -- How an answer crosses into C, which has no enum: an int32_t that is the value, or minus the refusal's number.
 -- The prover's numbers are natural, so minus n is its pattern of 32 bits, 2^32 − n.
 use mathlib.Core.List.{List}
-use Prim.Native.Nat.{ℕ, _+_, _*_, _-_, _%_, _^_, _<_, _≤_}
+use Prim.Native.Nat.{ℕ, _+_, _*_, _-_, _%_, _^_}
 use Rattle.field.specs.declared.Answer.{Answer}
 use Rattle.field.specs.declared.Answer.the-variants.{Element, Refused as NoElement}
 use Rattle.slices.specs.declared.Outcome.{Outcome}
@@ -15,7 +15,6 @@ use Rattle.repair.specs.declared.Recovery.the-variants.{Repaired, Refused as No
 use Rattle.rows.specs.declared.Reading.{Reading}
 use Rattle.rows.specs.declared.Reading.the-variants.{Read, Refused as NotRead}
 use Rattle.rows.specs.Rows.{lampNumber}
-use Rattle.slices.specs.Lengths.{longest}
 use Rattle.listing.specs.declared.Listed.{Listed}
 use Rattle.listing.specs.declared.Listed.the-variants.{Length, Refused as NotListed}
 
@@ -47,15 +46,10 @@ abbrev pub listedCode : Listed → ℕ
 listedCode (Length k) = k
 listedCode (NotListed n) = minus n
 
--- a row and a count in one number
+-- a row and a count in one number of 32 bits
 abbrev pub readingCode : Reading → ℕ
-readingCode (Read row count) = row .gear + 8 * lampNumber (row .lamp) + 32 * count
+readingCode (Read row count) = (row .gear + 8 * lampNumber (row .lamp) + 32 * count) % 2 ^ 32
 readingCode (NotRead n) = minus n
-
--- for which 32 bits are enough
-abbrev pub Small : Reading → Type 0
-Small (Read row count) = (row .gear < 8) × (count ≤ longest)
-Small (NotRead n) = Unit {0}
 
 -- a number with the buffer that goes with it
 abbrev pub paired : ℕ → List ℕ → ℕ × List ℕ

@@ -6,11 +6,12 @@ use repair::Recovery;
 use rows::Lamp;
 use rows::Reading;
 use slices::Outcome;
+use std::num::wrapping_add_u32;
 use words::Counted;
 ghost use mathlib.Core.Path.{_≡_};
 ghost use Prim.Native.Nat.{_<_};
 ghost use Rattle.rows.specs.Rows.{lampNumber};
-ghost use Rattle.capi.specs.Wire.{minus, elementCode, outcomeCode, samenessCode, countedCode, recoveryCode, listedCode, readingCode, Small};
+ghost use Rattle.capi.specs.Wire.{minus, elementCode, outcomeCode, samenessCode, countedCode, recoveryCode, listedCode, readingCode};
 
 pub fn element_code(answer: Answer) -> u32
     ensures { λ r. ⌜ r ≡ elementCode answer ⌝ }
@@ -67,16 +68,16 @@ pub fn listed_code(listed: Listed) -> u32
     }
 }
 
-// gear + 8 × lamp + 32 × count.
+// gear + 8 × lamp + 32 × count, in 32 bits. No row that is read needs more (`reading-whole` of specs/Readings.antt).
 pub fn reading_code(reading: Reading) -> u32
-    requires { ⌜ Small reading ⌝ }
     ensures { λ r. ⌜ r ≡ readingCode reading ⌝ }
 {
     match reading {
         Reading::Read(row, count) => {
             let gear = row.gear;
             let lamp = row.lamp;
-            gear + 8 * lamp_number(lamp) + 32 * count
+            let shown = wrapping_add_u32(gear, 8 * lamp_number(lamp));
+            wrapping_add_u32(shown, count << 5)
         }
         Reading::Refused(number) => minus(number),
     }
@@ -96,5 +97,5 @@ fn lamp_number(lamp: Lamp) -> u32
 fn minus(number: u32) -> u32
     ensures { λ r. ⌜ r ≡ minus number ⌝ }
 {
-    std::num::wrapping_add_u32(u32::MAX - number, 1)
+    wrapping_add_u32(u32::MAX - number, 1)
 }

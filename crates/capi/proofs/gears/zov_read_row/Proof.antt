@@ -1,7 +1,6 @@
 -- `zov_read_row` meets its contract: the answer as a number, and the buffer as the call leaves it.
 use mathlib.Core.Path.{ap, _∙_}
 use Rattle.capi.specs.Wire.{readingCode}
-use Rattle.capi.proofs.Readings.{reading-small}
 use borrow.Author.Needs.{needs}
 use Rattle.capi.proofs.gears.zov_read_row.Statement.{statement}
 use Rattle.capi.proofs.gears.zov_read_row.Tie as tie
@@ -10,9 +9,7 @@ read-row-requires : tie.Need-read-row-requires
 read-row-requires c κs = search needs
 
 reading-code-requires : tie.Need-reading-code-requires
-reading-code-requires c κs =
-    let a = c .before .before .before .before .before .before .before .args in
-    reading-small (a .m) (a .n) (a .t) (a .omega) (a .h .now) (a .received .now) (a .repaired .now) (c .before .before .read-row .ensures .0)
+reading-code-requires c κs = search needs
 
 same-length : tie.Need-same-length
 same-length c = search needs
