@@ -1,10 +1,11 @@
 -- A test at every number below n, and at some number below n, as a computation and as what it says.
 use mathlib.Core.Path.{_≡_, refl, sym, ap, ap₂, _∙_, subst}
-use mathlib.Core.Bool.{Bool, true, false, _&&_, _||_, or-true, false≢true}
-use Prim.Native.Nat.{ℕ, zero, suc, _<_}
+use mathlib.Core.Bool.{Bool, true, false, not, _&&_, _||_, or-true, false≢true}
+use Prim.Native.Nat.{ℕ, zero, suc, _+_, _≤_, _<_}
 use native.Mathlib.Nat.{not-suc-le-zero}
 use native.Mathlib.Decide.{decLt}
 use native.Mathlib.Omega.{arith}
+use borrow.Author.Tests.{not-true, not-false}
 
 unfoldable pub all : ℕ → (ℕ → Bool) → Bool
 all zero p = true
@@ -18,9 +19,19 @@ pub both-true : (a b : Bool) → (a && b) ≡ true → (a ≡ true) × (b ≡ tr
 both-true true b e = (refl, e)
 both-true false b e = absurd (false≢true e)
 
+pub both-hold : {a b : Bool} → a ≡ true → b ≡ true → (a && b) ≡ true
+both-hold p q = ap₂ (λ (a b : Bool). a && b) p q
+
 pub refuted : (b : Bool) → (b ≡ true → ⊥) → b ≡ false
 refuted true h = absurd (h refl)
 refuted false h = refl
+
+-- branches on a negated flag r that a call ensured to be the test t
+pub failed : {r t : Bool} → r ≡ t → not r ≡ true → t ≡ false
+failed {r} e h = sym e ∙ not-true r h
+
+pub passed : {r t : Bool} → r ≡ t → not r ≡ false → t ≡ true
+passed {r} e h = sym e ∙ not-false r h
 
 -- what holds below n and at n holds below n + 1
 pub below-suc : (P : ℕ → Type 0) (n : ℕ) → ((i : ℕ) → i < n → P i) → P n → (i : ℕ) → i < suc n → P i
@@ -67,3 +78,22 @@ some-is (suc n) p e = decided (some n p) refl e (some-is n p)
     decided true q e ih =
         let (i, l, h) = ih q in (i, omega arith, h)
     decided false q e ih = (n, omega arith, sym (ap (λ (b : Bool). b || p n) q) ∙ e)
+
+-- ---- a loop that tests one number after the other, and stops at the first that fails: what holds when i have passed
+
+pub record Scanning (n : ℕ) (p : ℕ → Bool) (i : ℕ) : Type 0 where
+  pub bound : i ≤ n
+  pub passed : (k : ℕ) → k < i → p k ≡ true
+
+pub scanning-start : (n : ℕ) (p : ℕ → Bool) → Scanning n p 0
+scanning-start n p = record { bound = omega arith; passed = λ k l. absurd (not-suc-le-zero l) }
+
+module _ {n : ℕ} {p : ℕ → Bool} {i : ℕ} (S : Scanning n p i) where
+  pub scanning-turn : i < n → p i ≡ true → Scanning n p (i + 1)
+  scanning-turn l t = record { bound = omega arith; passed = λ k lk. below-suc (λ (k : ℕ). p k ≡ true) i (S .passed) t k (omega arith) }
+
+  pub scanning-fails : i < n → p i ≡ false → false ≡ all n p
+  scanning-fails l e = sym (all-false n p i l e)
+
+  pub scanning-end : n ≤ i → true ≡ all n p
+  scanning-end h = sym (all-true n p (λ k l. S .passed k (omega arith)))

@@ -68,7 +68,8 @@ bitAt-half x b = ap (λ (z : ℕ). z % 2) (shr-shr x 1 b ∙ ap (λ (k : ℕ). x
 pub bits-zero : (m x : ℕ) → x < 2 ^ m → ((b : ℕ) → b < m → bitAt x b ≡ 0) → x ≡ 0
 unfolding bitAt
 bits-zero zero x h z = omega arith
-bits-zero (suc m) x h z = whole (bits-zero m (x / 2) (half (rw pow-suc at h)) (λ b l. bitAt-half x b ∙ z (suc b) (suc-le-suc l))) (z 0 (zero-lt-suc m))
+bits-zero (suc m) x h z =
+    whole (bits-zero m (x / 2) (half (rw pow-suc at h)) (λ b l. bitAt-half x b ∙ z (suc b) (suc-le-suc l))) (z 0 (zero-lt-suc m))
   where
     half : x < 2 ^ m * 2 → x / 2 < 2 ^ m
     half t = omega arith

@@ -69,7 +69,8 @@ module _ {A : Type 0} (K : Ops A) (F : Laws K) where
   unfolding dot rest sum
   dot-leading n r w p l h u z =
       ap (λ (k : ℕ). sum K k f) (sym whole) ∙ sum-split K F (suc p) (n - suc p) f
-      ∙ ap (λ (x : A). x + sum K (n - suc p) (λ j. f (suc p +ℕ j))) (ap₂ (λ (x y : A). x + y) none (ap (λ (x : A). x · w p) u ∙ F .one-mul (w p) h) ∙ F .nought-add (w p))
+      ∙ ap (λ (x : A). x + sum K (n - suc p) (λ j. f (suc p +ℕ j)))
+      (ap₂ (λ (x y : A). x + y) none (ap (λ (x : A). x · w p) u ∙ F .one-mul (w p) h) ∙ F .nought-add (w p))
     where
       f : ℕ → A
       f j = r j · w j
@@ -143,7 +144,9 @@ module _ {A : Type 0} (K : Ops A) (F : Laws K) where
           next = put w p (due f w p (leads p))
 
           in-next : (j : ℕ) → j < n → Dec (j ≡ p) → In (next j)
-          in-next j m (yes q) = subst (λ (i : ℕ). In (next i)) (sym q) (subst In (sym (put-at w p (due f w p (leads p)))) (in-due w p (leads p) (omega arith)))
+          in-next j m (yes q) =
+              subst (λ (i : ℕ). In (next i)) (sym q)
+              (subst In (sym (put-at w p (due f w p (leads p)))) (in-due w p (leads p) (omega arith)))
           in-next j m (no ne) = subst In (sym (put-other w p (due f w p (leads p)) j ne)) (hw j m)
 
           later : (q : ℕ) → p ≤ q → (j : ℕ) → q < j → j < n → w j ≡ next j
@@ -205,4 +208,5 @@ module _ {A : Type 0} (K : Ops A) (F : Laws K) where
     last-led p l t w h s u z =
         F .one≢nought
         (sym u ∙ entry-is w h p l t (s p l t)
-        ∙ sum-nought K F (n - suc p) (λ j m. ap (λ (x : A). rows p (suc p +ℕ j) · x) (z (suc p +ℕ j) (omega arith) (omega arith)) ∙ mul-nought K F (rows p (suc p +ℕ j))))
+        ∙ sum-nought K F (n - suc p) (λ j m. ap (λ (x : A). rows p (suc p +ℕ j) · x) (z (suc p +ℕ j) (omega arith) (omega arith)) ∙ mul-nought K F
+        (rows p (suc p +ℕ j))))

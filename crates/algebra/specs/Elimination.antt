@@ -50,7 +50,8 @@ module _ {A : Type 0} (K : Ops A) (F : Laws K) (n : ℕ) where
         kept s q m t (yes e) = absurd (false≢true (sym free ∙ ap leads (sym e) ∙ t))
         kept s q m t (no ne) = ap (λ (x : ℕ → A). dot K n x w) (sym (put-other rows p r q ne)) ∙ s q m (put-other leads p true q ne ∙ t)
 
-        back : Solves K n rows leads w × (dot K n r w ≡ nought) → (q : ℕ) → q < n → put leads p true q ≡ true → Dec (q ≡ p) → dot K n (put rows p r q) w ≡ nought
+        back : Solves K n rows leads w × (dot K n r w ≡ nought) → (q : ℕ) → q < n → put leads p true q ≡ true → Dec (q ≡ p)
+            → dot K n (put rows p r q) w ≡ nought
         back s q m t (yes e) = ap (λ (i : ℕ). dot K n (put rows p r i) w) e ∙ ap (λ (x : ℕ → A). dot K n x w) (put-at rows p r) ∙ s .1
         back s q m t (no ne) = ap (λ (x : ℕ → A). dot K n x w) (put-other rows p r q ne) ∙ s .0 q m (sym (put-other leads p true q ne) ∙ t)
 

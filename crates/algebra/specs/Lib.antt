@@ -6,7 +6,10 @@ pub mod Poly
 pub mod Tabulate
 pub mod Splice
 pub mod All
+pub mod Lists
+pub mod Places
 pub mod Echelon
 pub mod Elimination
 pub mod Locator
 pub mod Product
+pub mod Pigeonhole

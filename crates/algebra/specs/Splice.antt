@@ -16,7 +16,8 @@ module _ {A : Type 0} (x l : List A) (a k : ℕ) (long : length l ≡ k) (fits :
   pub length-spliced : length spliced ≡ length x
   length-spliced =
       length-append (take a x) (l ++ drop k (drop a x))
-      ∙ ap₂ (λ (i j : ℕ). i + j) front (length-append l (drop k (drop a x)) ∙ ap₂ (λ (i j : ℕ). i + j) long (length-drop k (drop a x) ∙ ap (λ (j : ℕ). j - k) (length-drop a x)))
+      ∙ ap₂ (λ (i j : ℕ). i + j) front (length-append l (drop k (drop a x)) ∙ ap₂ (λ (i j : ℕ). i + j) long
+      (length-drop k (drop a x) ∙ ap (λ (j : ℕ). j - k) (length-drop a x)))
       ∙ omega arith
 
   -- from a on

@@ -71,7 +71,8 @@ module _ {A : Type 0} where
 
   pub length-filled : (f : ℕ → A) (i : ℕ) (old : List A) → i ≤ length old → length (filled f i old) ≡ length old
   unfolding filled
-  length-filled f i old h = length-append (tabulate i f) (drop i old) ∙ ap₂ (λ (x y : ℕ). x + y) (length-tabulate i f) (length-drop i old) ∙ omega arith
+  length-filled f i old h = length-append (tabulate i f) (drop i old) ∙ ap₂ (λ (x y : ℕ). x + y) (length-tabulate i f) (length-drop i old)
+      ∙ omega arith
 
   -- what a loop has stored stands at its place
   pub getD-stored : (f : ℕ → A) (n : ℕ) (old : List A) (i : ℕ) (d : A) → i < n → getD (filled f n old) i d ≡ f i

@@ -1,9 +1,9 @@
 // A code's parameters.
-use crate::wire;
 use field::Elem;
+use params::Parameters;
 ghost use mathlib.Core.Path.{_≡_};
 ghost use Rattle.params.specs.Answers.{checkAnswer, rootsAfter, supportAfter, sameAnswer};
-ghost use Rattle.capi.specs.Wire.{outcomeCode, samenessCode};
+ghost use Rattle.wire.specs.Wire.{code, outcomeCode, samenessCode};
 
 #[no_mangle]
 pub extern "C" fn zov_check(
@@ -15,11 +15,11 @@ pub extern "C" fn zov_check(
     roots: &mut [Elem],
     support: &mut [Elem],
 ) -> u32
-    ensures { λ r. ⌜ r ≡ outcomeCode (checkAnswer m n t omega (now (h .entry)) (now (roots .entry)) (now (support .entry))) ⌝ }
-    ensures { λ _. ⌜ now (roots .exit) ≡ rootsAfter m n t omega (now (h .entry)) (now (roots .entry)) (now (support .entry)) ⌝ }
-    ensures { λ _. ⌜ now (support .exit) ≡ supportAfter m n t omega (now (h .entry)) (now (roots .entry)) (now (support .entry)) ⌝ }
+    ensures { λ r. ⌜ r ≡ outcomeCode (checkAnswer (code m n t omega) (now (h .entry)) (now (roots .entry)) (now (support .entry))) ⌝ }
+    ensures { λ _. ⌜ now (roots .exit) ≡ rootsAfter (code m n t omega) (now (h .entry)) (now (roots .entry)) (now (support .entry)) ⌝ }
+    ensures { λ _. ⌜ now (support .exit) ≡ supportAfter (code m n t omega) (now (h .entry)) (now (roots .entry)) (now (support .entry)) ⌝ }
 {
-    wire::outcome_code(params::check(m, n, t, omega, h, roots, support))
+    wire::outcome_code(params::check(Parameters { m, n, t, omega }, h, roots, support))
 }
 
 #[no_mangle]
@@ -35,7 +35,22 @@ pub extern "C" fn zov_same(
     omega2: u32,
     h2: &[Elem],
 ) -> u32
-    ensures { λ r. ⌜ r ≡ samenessCode (sameAnswer m1 n1 t1 omega1 (now (h1 .entry)) m2 n2 t2 omega2 (now (h2 .entry))) ⌝ }
+    ensures { λ r. ⌜ r ≡ samenessCode (sameAnswer (code m1 n1 t1 omega1) (now (h1 .entry)) (code m2 n2 t2 omega2) (now (h2 .entry))) ⌝ }
 {
-    wire::sameness_code(params::same(m1, n1, t1, omega1, h1, m2, n2, t2, omega2, h2))
+    wire::sameness_code(params::same(
+        Parameters {
+            m: m1,
+            n: n1,
+            t: t1,
+            omega: omega1,
+        },
+        h1,
+        Parameters {
+            m: m2,
+            n: n2,
+            t: t2,
+            omega: omega2,
+        },
+        h2,
+    ))
 }

@@ -1,16 +1,16 @@
 // Words of a code.
-use crate::wire;
 use field::Elem;
+use params::Parameters;
 ghost use mathlib.Core.Path.{_≡_};
 ghost use Rattle.words.specs.Answers.{rolesAnswer, rolesAfter, syndromeAnswer, syndromeAfter, encodeAnswer, encodeAfter, messageAnswer, messageAfter};
-ghost use Rattle.capi.specs.Wire.{outcomeCode, countedCode};
+ghost use Rattle.wire.specs.Wire.{code, outcomeCode, countedCode};
 
 #[no_mangle]
 pub extern "C" fn zov_roles(m: u32, n: u32, t: u32, omega: u32, h: &[Elem], roles: &mut [u8]) -> u32
-    ensures { λ r. ⌜ r ≡ countedCode (rolesAnswer m n t omega (now (h .entry)) (now (roles .entry))) ⌝ }
-    ensures { λ _. ⌜ now (roles .exit) ≡ rolesAfter m n t omega (now (h .entry)) (now (roles .entry)) ⌝ }
+    ensures { λ r. ⌜ r ≡ countedCode (rolesAnswer (code m n t omega) (now (h .entry)) (now (roles .entry))) ⌝ }
+    ensures { λ _. ⌜ now (roles .exit) ≡ rolesAfter (code m n t omega) (now (h .entry)) (now (roles .entry)) ⌝ }
 {
-    wire::counted_code(words::roles(m, n, t, omega, h, roles))
+    wire::counted_code(words::roles(Parameters { m, n, t, omega }, h, roles))
 }
 
 #[no_mangle]
@@ -23,10 +23,10 @@ pub extern "C" fn zov_syndrome(
     word: &[u8],
     out: &mut [Elem],
 ) -> u32
-    ensures { λ r. ⌜ r ≡ outcomeCode (syndromeAnswer m n t omega (now (h .entry)) (now (word .entry)) (now (out .entry))) ⌝ }
-    ensures { λ _. ⌜ now (out .exit) ≡ syndromeAfter m n t omega (now (h .entry)) (now (word .entry)) (now (out .entry)) ⌝ }
+    ensures { λ r. ⌜ r ≡ outcomeCode (syndromeAnswer (code m n t omega) (now (h .entry)) (now (word .entry)) (now (out .entry))) ⌝ }
+    ensures { λ _. ⌜ now (out .exit) ≡ syndromeAfter (code m n t omega) (now (h .entry)) (now (word .entry)) (now (out .entry)) ⌝ }
 {
-    wire::outcome_code(words::syndrome(m, n, t, omega, h, word, out))
+    wire::outcome_code(words::syndrome(Parameters { m, n, t, omega }, h, word, out))
 }
 
 #[no_mangle]
@@ -39,10 +39,10 @@ pub extern "C" fn zov_encode(
     message: &[u8],
     word: &mut [u8],
 ) -> u32
-    ensures { λ r. ⌜ r ≡ outcomeCode (encodeAnswer m n t omega (now (h .entry)) (now (message .entry)) (now (word .entry))) ⌝ }
-    ensures { λ _. ⌜ now (word .exit) ≡ encodeAfter m n t omega (now (h .entry)) (now (message .entry)) (now (word .entry)) ⌝ }
+    ensures { λ r. ⌜ r ≡ outcomeCode (encodeAnswer (code m n t omega) (now (h .entry)) (now (message .entry)) (now (word .entry))) ⌝ }
+    ensures { λ _. ⌜ now (word .exit) ≡ encodeAfter (code m n t omega) (now (h .entry)) (now (message .entry)) (now (word .entry)) ⌝ }
 {
-    wire::outcome_code(words::encode(m, n, t, omega, h, message, word))
+    wire::outcome_code(words::encode(Parameters { m, n, t, omega }, h, message, word))
 }
 
 #[no_mangle]
@@ -55,8 +55,8 @@ pub extern "C" fn zov_message(
     word: &[u8],
     message: &mut [u8],
 ) -> u32
-    ensures { λ r. ⌜ r ≡ outcomeCode (messageAnswer m n t omega (now (h .entry)) (now (word .entry)) (now (message .entry))) ⌝ }
-    ensures { λ _. ⌜ now (message .exit) ≡ messageAfter m n t omega (now (h .entry)) (now (word .entry)) (now (message .entry)) ⌝ }
+    ensures { λ r. ⌜ r ≡ outcomeCode (messageAnswer (code m n t omega) (now (h .entry)) (now (word .entry)) (now (message .entry))) ⌝ }
+    ensures { λ _. ⌜ now (message .exit) ≡ messageAfter (code m n t omega) (now (h .entry)) (now (word .entry)) (now (message .entry)) ⌝ }
 {
-    wire::outcome_code(words::message(m, n, t, omega, h, word, message))
+    wire::outcome_code(words::message(Parameters { m, n, t, omega }, h, word, message))
 }

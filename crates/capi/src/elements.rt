@@ -1,8 +1,7 @@
 // Field elements.
-use crate::wire;
 ghost use mathlib.Core.Path.{_≡_};
 ghost use Rattle.field.specs.Answers.{sumAnswer, productAnswer, inverseAnswer};
-ghost use Rattle.capi.specs.Wire.{elementCode};
+ghost use Rattle.wire.specs.Wire.{elementCode};
 
 #[no_mangle]
 pub extern "C" fn zov_field_sum(m: u32, a: u32, b: u32) -> u32

@@ -1,9 +1,9 @@
 // Repair of received words.
-use crate::wire;
 use field::Elem;
+use params::Parameters;
 ghost use mathlib.Core.Path.{_≡_};
 ghost use Rattle.repair.specs.Answers.{repairAnswer, repairAfter};
-ghost use Rattle.capi.specs.Wire.{recoveryCode};
+ghost use Rattle.wire.specs.Wire.{code, recoveryCode};
 
 #[no_mangle]
 pub extern "C" fn zov_repair(
@@ -15,8 +15,8 @@ pub extern "C" fn zov_repair(
     received: &[u8],
     repaired: &mut [u8],
 ) -> u32
-    ensures { λ r. ⌜ r ≡ recoveryCode (repairAnswer m n t omega (now (h .entry)) (now (received .entry)) (now (repaired .entry))) ⌝ }
-    ensures { λ _. ⌜ now (repaired .exit) ≡ repairAfter m n t omega (now (h .entry)) (now (received .entry)) (now (repaired .entry)) ⌝ }
+    ensures { λ r. ⌜ r ≡ recoveryCode (repairAnswer (code m n t omega) (now (h .entry)) (now (received .entry)) (now (repaired .entry))) ⌝ }
+    ensures { λ _. ⌜ now (repaired .exit) ≡ repairAfter (code m n t omega) (now (h .entry)) (now (received .entry)) (now (repaired .entry)) ⌝ }
 {
-    wire::recovery_code(repair::repair(m, n, t, omega, h, received, repaired))
+    wire::recovery_code(repair::repair(Parameters { m, n, t, omega }, h, received, repaired))
 }

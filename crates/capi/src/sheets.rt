@@ -1,8 +1,7 @@
 // The bench sheet.
-use crate::wire;
 ghost use mathlib.Core.Path.{_≡_};
 ghost use Rattle.listing.specs.Answers.{listingAnswer, listingAfter};
-ghost use Rattle.capi.specs.Wire.{listedCode};
+ghost use Rattle.wire.specs.Wire.{listedCode};
 
 #[no_mangle]
 pub extern "C" fn zov_sheet(text: &[u8], out: &mut [u8]) -> u32

@@ -13,35 +13,30 @@ use Rattle.field.specs.declared.Answer.{Answer}
 use Rattle.field.specs.declared.Answer.the-variants.{Element, Refused as NoElement}
 use Rattle.field.specs.Answers.{elementRules, pairFault, productAnswer, inverseFault, inverseAnswer}
 use Rattle.field.specs.Product.{polyProduct, cutBack, remainder, product, squares, inverse}
-use Rattle.field.specs.Rules.{fault, unless-refused, isWidth, isElement}
+use Rattle.refusals.specs.Rules.{fault, unless-refused}
+use Rattle.field.specs.Range.{isWidth, isElement}
 use Rattle.field.specs.Words.{words, word}
-use Rattle.slices.specs.declared.Outcome.{Outcome}
-use Rattle.slices.specs.declared.Outcome.the-variants.{Done, Refused}
+use Rattle.refusals.specs.declared.Outcome.{Outcome}
+use Rattle.refusals.specs.declared.Outcome.the-variants.{Done, Refused}
 use Rattle.slices.specs.Elements.{allElements}
 use Rattle.slices.specs.Lengths.{isPower}
-use Rattle.dyadic.specs.Answers.{
-  sizeRules,
-  blockRules,
-  pairRules as blockPairRules,
-  inverseRules,
-  pairFault as blockPairFault,
-  inverseFault as blockInverseFault,
-  productAnswer as blockProductAnswer,
-  inverseAnswer as blockInverseAnswer,
-}
+use Rattle.blocks.specs.Answers.{sizeRules, blockRules, pairRules as blockPairRules, inverseRules, pairFault as blockPairFault, inverseFault as blockInverseFault, productAnswer as blockProductAnswer, productAfter as blockProductAfter, inverseAnswer as blockInverseAnswer, inverseAfter as blockInverseAfter}
 use Rattle.dyadic.specs.Block.{blockProduct, total, quotient, blockInverse}
+use Rattle.params.specs.declared.Parameters.{Parameters}
 use Rattle.params.specs.Answers.{codeFault, checkFault, checkAnswer, supportAfter}
-use Rattle.params.specs.Code.{isLength, isRootCount, shapeRules, signatureRules, codeRules}
-use Rattle.params.specs.Existence.{rootAt, supportAt}
-use Rattle.params.specs.Tests.{inverseAt, nonzero, noZero, pairKept, affine, linear, distinct}
-use Rattle.words.specs.Chosen.{same-is}
+use Rattle.params.specs.Code.{isLength, isRootCount, shapeRules, codeRules}
+use Rattle.signature.specs.Tests.{signatureRules, inverseAt, nonzero, noZero, pairKept, affine, linear, distinct}
+use Rattle.signature.specs.Existence.{rootAt, supportAt}
+use Rattle.algebra.specs.Lists.{sameEntry, sameList, sameList-is}
 use Rattle.words.specs.Answers.{messageRules, encodeFault, encodeAnswer, encodeAfter}
-use Rattle.words.specs.Columns.{count, chosen, wordOf, found, sameList, isSumOf, isSum, isMessageColumn, dimension, messageOf, encodingOf}
-use Rattle.words.specs.Word.{whole, isWord, parityAt, held, syndromeAt, isCodeWord}
+use Rattle.words.specs.Columns.{wordOf, isSumOf, isSum, isMessageColumn, dimension, messageOf, encodingOf}
+use Rattle.algebra.specs.Places.{count, chosen, found}
+use Rattle.words.specs.Word.{whole, parityAt, held, syndromeAt, isCodeWord}
+use Rattle.slices.specs.Bits.{allBits}
+use Rattle.nearest.specs.Repair.{differs, distance, isNear, isRepairable, repairedOf}
 use Rattle.repair.specs.declared.Recovery.{Recovery}
 use Rattle.repair.specs.declared.Recovery.the-variants.{Repaired, Refused as NotRepaired}
 use Rattle.repair.specs.Answers.{wordRules, turnedCount, repairFault, repairAnswer, repairAfter}
-use Rattle.repair.specs.Repair.{distance, isNear, isRepairable, repairedOf}
 
 -- ---- answers as lists of numbers: 0 or the refusal's number, then the value and what the lent buffer holds
 
@@ -66,25 +61,31 @@ blank n = tabulate n zeroAt
     zeroAt i = 0
 
 blockProductOf : ℕ → List ℕ → List ℕ → List ℕ
-blockProductOf m a b = let r = blockProductAnswer m a b (blank (length a)) in outcome (r .0) (r .1)
+blockProductOf m a b =
+    let lent = blank (length a) in outcome (blockProductAnswer m a b lent) (blockProductAfter m a b lent)
 
 blockInverseOf : ℕ → List ℕ → List ℕ
-blockInverseOf m a = let r = blockInverseAnswer m a (blank (length a)) in outcome (r .0) (r .1)
+blockInverseOf m a =
+    let lent = blank (length a) in outcome (blockInverseAnswer m a lent) (blockInverseAfter m a lent)
+
+-- the numbers of a card with one root and no offset
+card : ℕ → ℕ → Parameters
+card m n = record { m = m; n = n; t = 1; omega = 0 }
 
 -- whether a signature is accepted, with one root and no offset, and its support
 signatureOf : ℕ → List ℕ → List ℕ
 signatureOf m h =
-    let lent = blank (length h) in outcome (checkAnswer m (length h) 1 0 h lent lent) (supportAfter m (length h) 1 0 h lent lent)
+    let lent = blank (length h) in outcome (checkAnswer (card m (length h)) h lent lent) (supportAfter (card m (length h)) h lent lent)
 
 -- card A
 signatureA : List ℕ
 signatureA = 7 ∷ 2 ∷ 3 ∷ 4 ∷ []
 
 encodingA : List ℕ → List ℕ
-encodingA message = outcome (encodeAnswer 3 4 1 0 signatureA message (blank 4)) (encodeAfter 3 4 1 0 signatureA message (blank 4))
+encodingA message = outcome (encodeAnswer (card 3 4) signatureA message (blank 4)) (encodeAfter (card 3 4) signatureA message (blank 4))
 
 repairA : List ℕ → List ℕ
-repairA received = recovery (repairAnswer 3 4 1 0 signatureA received (blank 4)) (repairAfter 3 4 1 0 signatureA received (blank 4))
+repairA received = recovery (repairAnswer (card 3 4) signatureA received (blank 4)) (repairAfter (card 3 4) signatureA received (blank 4))
 
 -- ---- the table
 
@@ -129,10 +130,10 @@ agreeing : (cs : List Case) → agree cs ≡ true → Hold cs
 unfolding agree
 agreeing [] e = tt
 agreeing (c ∷ cs) e =
-    let (here, rest) = both-true (sameList (c .given) (c .said)) (agree cs) e in (same-is (c .given) (c .said) here, agreeing cs rest)
+    let (here, rest) = both-true (sameList (c .given) (c .said)) (agree cs) e in (sameList-is (c .given) (c .said) .0 here, agreeing cs rest)
 
 table-agrees : agree table ≡ true
-unfolding agree table is element outcome recovery blank blockProductOf blockInverseOf signatureOf signatureA encodingA repairA elementRules pairFault productAnswer inverseFault inverseAnswer polyProduct cutBack remainder product squares inverse fault unless-refused isWidth isElement words word allElements isPower sizeRules blockRules blockPairRules inverseRules blockPairFault blockInverseFault blockProductAnswer blockInverseAnswer blockProduct total quotient blockInverse codeFault checkFault checkAnswer supportAfter isLength isRootCount shapeRules signatureRules codeRules rootAt supportAt inverseAt nonzero noZero pairKept affine linear distinct messageRules encodeFault encodeAnswer encodeAfter count chosen wordOf found sameList isSumOf isSum isMessageColumn dimension messageOf encodingOf whole isWord parityAt held syndromeAt isCodeWord wordRules turnedCount repairFault repairAnswer repairAfter distance isNear isRepairable repairedOf all some bitAt sum tabulate _⊕_
+unfolding agree table is element outcome recovery blank card blockProductOf blockInverseOf signatureOf signatureA encodingA repairA elementRules pairFault productAnswer inverseFault inverseAnswer polyProduct cutBack remainder product squares inverse fault unless-refused isWidth isElement words word allElements isPower sizeRules blockRules blockPairRules inverseRules blockPairFault blockInverseFault blockProductAnswer blockProductAfter blockInverseAnswer blockInverseAfter blockProduct total quotient blockInverse codeFault checkFault checkAnswer supportAfter isLength isRootCount shapeRules signatureRules codeRules rootAt supportAt inverseAt nonzero noZero pairKept affine linear distinct messageRules encodeFault encodeAnswer encodeAfter count chosen wordOf found sameList sameEntry isSumOf isSum isMessageColumn dimension messageOf encodingOf whole allBits parityAt held syndromeAt isCodeWord wordRules turnedCount repairFault repairAnswer repairAfter distance isNear isRepairable differs repairedOf all some bitAt sum tabulate _⊕_
 table-agrees = refl
 
 pub table-holds : Hold table

@@ -9,13 +9,14 @@ use lib.Dec.{lit<, lit≤}
 use lib.ListN.{length, getD, set, take, drop, length-drop, take-append-drop, drop-of-length-le}
 use lib.Seq.{take-at, drop-at, length-take-le}
 use Rattle.algebra.specs.Field.{Laws}
+use Rattle.algebra.specs.Lists.{entry}
 use Rattle.algebra.specs.Sum.{sum}
 use Rattle.algebra.specs.Tabulate.{tabulate, filling-start, filling-turn, filling-end}
 use Rattle.algebra.specs.Xor.{_⊕_, zero-⊕}
 use Rattle.field.specs.Gf.{gf, gf-laws}
 use Rattle.field.specs.Product.{product}
 use Rattle.field.specs.Words.{word}
-use Rattle.dyadic.specs.Block.{entry, blockSum, blockProduct}
+use Rattle.dyadic.specs.Block.{blockSum, blockProduct}
 use Rattle.dyadic.specs.Entries.{length-sum, length-product, entry-product}
 use Rattle.dyadic.specs.Sums.{sum-append, sum-assoc, zero-sum}
 use Rattle.dyadic.specs.Laws.{product-halves}
@@ -138,8 +139,8 @@ parts-end m h a b out o k p =
 
 -- ---- into a buffer that was cleared
 
-pub cleared : (m : ℕ) (a b out zeros : List ℕ) → length zeros ≡ length out → Factors m a b out → Factors m a b zeros
-cleared m a b out zeros l f =
+pub cleared : {m : ℕ} {a b out zeros : List ℕ} → length zeros ≡ length out → Factors m a b out → Factors m a b zeros
+cleared l f =
     record {
       width = f .width;
       log = f .log;
@@ -150,9 +151,9 @@ cleared m a b out zeros l f =
       elements-b = f .elements-b;
     }
 
-pub into-cleared : (m : ℕ) (a b out zeros written : List ℕ) → Factors m a b out → zeros ≡ tabulate (length out) (λ (i : ℕ). 0)
+pub into-cleared : {m : ℕ} {a b out zeros written : List ℕ} → Factors m a b out → zeros ≡ tabulate (length out) (λ (i : ℕ). 0)
     → written ≡ blockSum (gf m) zeros (blockProduct (gf m) a b) → written ≡ blockProduct (gf m) a b
-into-cleared m a b out zeros written f z e =
+into-cleared {m} {a} {b} f z e =
     e
     ∙ ap (λ (x : List ℕ). blockSum (gf m) x (blockProduct (gf m) a b))
     (z ∙ ap (λ (n : ℕ). tabulate n (λ (i : ℕ). 0)) (f .length-out ∙ sym (length-product (gf m) a b ∙ f .length-a)))

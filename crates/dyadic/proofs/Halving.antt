@@ -8,7 +8,8 @@ use lib.Pow.{pow-pos}
 use lib.ListN.{length, take, drop, length-drop}
 use lib.Seq.{take-all, length-take-le, getD-take, getD-drop}
 use Rattle.field.specs.Gf.{Width}
-use Rattle.dyadic.specs.Callers.{Elements, Factors}
+use Rattle.slices.specs.Elements.{Elements}
+use Rattle.dyadic.specs.Callers.{Factors}
 
 abbrev pub low : ℕ → List ℕ → List ℕ
 low h x = take h x

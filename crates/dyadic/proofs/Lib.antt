@@ -1,4 +1,2 @@
-pub mod Checked
-pub mod Ending
 pub mod Halving
 pub mod Adding

@@ -5,8 +5,9 @@ use Prim.Native.Nat.{ℕ, _+_, _^_, _<_}
 use lib.ListN.{length, List·getD-append}
 use lib.Seq.{getD-append-add}
 use Rattle.algebra.specs.Field.{Ops}
+use Rattle.algebra.specs.Lists.{entry}
 use Rattle.algebra.specs.Tabulate.{tabulate, length-tabulate, getD-tabulate, tabulate-cong}
-use Rattle.dyadic.specs.Block.{entry, blockSum, convolution, blockProduct, total, quotient, blockInverse}
+use Rattle.dyadic.specs.Block.{blockSum, convolution, blockProduct, total, quotient, blockInverse}
 use Rattle.dyadic.specs.Convolution.{convolution-cong}
 
 module _ {A : Type 0} (K : Ops A) where
@@ -30,11 +31,13 @@ module _ {A : Type 0} (K : Ops A) where
   unfolding blockProduct
   product-sized n a b la = ap (λ (k : ℕ). tabulate k (convolution K k (entry K a) (entry K b))) la
 
-  pub entry-product : (n : ℕ) (a b : List A) → length a ≡ n → (d : ℕ) → d < n → entry K (blockProduct K a b) d ≡ convolution K n (entry K a) (entry K b) d
+  pub entry-product : (n : ℕ) (a b : List A) → length a ≡ n → (d : ℕ) → d < n → entry K (blockProduct K a b) d
+      ≡ convolution K n (entry K a) (entry K b) d
   entry-product n a b la d ld =
       ap (λ (x : List A). entry K x d) (product-sized n a b la) ∙ getD-tabulate n (convolution K n (entry K a) (entry K b)) d (K .nought) ld
 
-  pub entry-inverse : (a : List A) (i : ℕ) → i < length a → entry K (blockInverse K a) i ≡ K .mul (entry K a i) (K .inv (K .mul (total K a) (total K a)))
+  pub entry-inverse : (a : List A) (i : ℕ) → i < length a → entry K (blockInverse K a) i
+      ≡ K .mul (entry K a i) (K .inv (K .mul (total K a) (total K a)))
   unfolding blockInverse quotient
   entry-inverse a i l = getD-tabulate (length a) (λ i. K .mul (entry K a i) (K .inv (K .mul (total K a) (total K a)))) i (K .nought) l
 
@@ -55,7 +58,8 @@ module _ {A : Type 0} (K : Ops A) where
   pub sum-products : (e : ℕ) (a b c d : List A) → length a ≡ 2 ^ e → length b ≡ 2 ^ e → {f g h k : ℕ → A}
       → ((j : ℕ) → j < 2 ^ e → f j ≡ entry K a j) → ((j : ℕ) → j < 2 ^ e → g j ≡ entry K c j)
       → ((j : ℕ) → j < 2 ^ e → h j ≡ entry K b j) → ((j : ℕ) → j < 2 ^ e → k j ≡ entry K d j)
-      → tabulate (2 ^ e) (λ i. K .add (convolution K (2 ^ e) f g i) (convolution K (2 ^ e) h k i)) ≡ blockSum K (blockProduct K a c) (blockProduct K b d)
+      → tabulate (2 ^ e) (λ i. K .add (convolution K (2 ^ e) f g i) (convolution K (2 ^ e) h k i))
+      ≡ blockSum K (blockProduct K a c) (blockProduct K b d)
   sum-products e a b c d la lb ea ec eb ed =
       tabulate-cong (2 ^ e) (λ i li. ap₂ (K .add) (convolution-cong K e ea ec i li) (convolution-cong K e eb ed i li))
       ∙ sym (sum-tabulate (2 ^ e) (convolution K (2 ^ e) (entry K a) (entry K c)) (convolution K (2 ^ e) (entry K b) (entry K d)))

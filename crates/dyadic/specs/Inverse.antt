@@ -9,9 +9,10 @@ use lib.Dec.{eqb, eqb·suc-zero}
 use lib.ListN.{length}
 use borrow.Author.Tests.{eq-eqb, ne-eqb, eqb-true, eqb-false}
 use Rattle.algebra.specs.Field.{Ops, Laws, ring, mul-nought, no-zero-divisors}
+use Rattle.algebra.specs.Lists.{entry}
 use Rattle.algebra.specs.Sum.{sum, sum-cong, sum-mul, sum-nought, sum-single, sum-swap, sum-reindex, in-sum}
 use Rattle.algebra.specs.Xor.{_⊕_, ⊕-comm, ⊕-self, ⊕-eq}
-use Rattle.dyadic.specs.Block.{entry, matrix, convolution, total, blockInverse}
+use Rattle.dyadic.specs.Block.{matrix, convolution, total, blockInverse}
 use Rattle.dyadic.specs.Matrix.{diagonal, identity}
 use Rattle.dyadic.specs.Convolution.{square-start, square-elsewhere}
 use Rattle.dyadic.specs.Entries.{entry-inverse}
@@ -46,7 +47,8 @@ module _ {A : Type 0} (K : Ops A) (F : Laws K) where
     divided : (d : ℕ) → convolution K (2 ^ e) (entry K (blockInverse K a)) (entry K a) d
         ≡ inv (total K a · total K a) · convolution K (2 ^ e) (entry K a) (entry K a) d
     divided d =
-        sum-cong K (2 ^ e) (λ j lj. ap (λ (x : A). x · entry K a (j ⊕ d)) (entry-inverse K a j (rw la lj)) ∙ sorted (entry K a j) c (entry K a (j ⊕ d)))
+        sum-cong K (2 ^ e) (λ j lj. ap (λ (x : A). x · entry K a (j ⊕ d)) (entry-inverse K a j (rw la lj))
+        ∙ sorted (entry K a j) c (entry K a (j ⊕ d)))
         ∙ sym (sum-mul K F (2 ^ e) c (λ j. entry K a j · entry K a (j ⊕ d)))
       where
         c : A

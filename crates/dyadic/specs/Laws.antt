@@ -6,10 +6,11 @@ use Prim.Native.Nat.{ℕ, _+_ as _+ℕ_, _^_, _<_}
 use lib.ListN.{length, length-append}
 use lib.Pow.{pow-pos}
 use Rattle.algebra.specs.Field.{Ops, Laws}
+use Rattle.algebra.specs.Lists.{entry}
 use Rattle.algebra.specs.Sum.{sum-cong, sum-reindex, left-top, right-top, both-top}
 use Rattle.algebra.specs.Tabulate.{tabulate-cong, tabulate-append}
 use Rattle.algebra.specs.Xor.{_⊕_, xor, ⊕-comm, ⊕-lt}
-use Rattle.dyadic.specs.Block.{entry, matrix, blockSum, convolution, blockProduct, total, blockInverse}
+use Rattle.dyadic.specs.Block.{matrix, blockSum, convolution, blockProduct, total, blockInverse}
 use Rattle.dyadic.specs.Matrix.{Matrix, Same, matrixSum, matrixProduct, identity}
 use Rattle.dyadic.specs.Convolution.{upper, convolution-lower, convolution-upper, convolution-comm}
 use Rattle.dyadic.specs.Entries.{length-inverse, entry-sum, product-sized, entry-product, entry-front, entry-back, sum-products}

@@ -6,4 +6,3 @@ pub mod Sums
 pub mod Inverse
 pub mod Laws
 pub mod Callers
-pub mod Answers

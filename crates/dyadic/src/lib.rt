@@ -1,102 +1,80 @@
-// Dyadic blocks over the fields GF(2^m). A block is given by its signature, s elements, s a power of two from 1 to the longest; its matrix has
-// entry i, j equal to the signature at i ⊕ j.
-//
-// The calls of this file take any input: what is out of range is refused by its number, and the lent buffer is written only where the call is
-// Done. Calls for code that has checked its slices already stand in `internal`.
-pub mod internal;
-
+// Dyadic blocks over the fields GF(2^m), for callers that have checked their slices: a width of the table, entries that are elements, lengths that
+// agree. A block is given by its signature; its matrix has entry i, j equal to the signature at i ⊕ j.
 use field::Elem;
-use slices::Outcome;
 ghost use mathlib.Core.Path.{_≡_};
-ghost use Rattle.dyadic.specs.Answers.{sizeFault, pairFault, blockFault, sumAnswer, productAnswer, inverseAnswer};
+ghost use Prim.Native.Nat.{ℕ, _<_, _^_};
+ghost use lib.ListN.{length};
+ghost use Rattle.algebra.specs.Tabulate.{tabulate};
+ghost use Rattle.field.specs.Gf.{Width, gf};
+ghost use Rattle.slices.specs.Elements.{Elements};
+ghost use Rattle.dyadic.specs.Block.{blockSum, blockProduct, total, quotient};
+ghost use Rattle.dyadic.specs.Callers.{Factors};
 
-pub fn sum(m: u32, a: &[Elem], b: &[Elem], out: &mut [Elem]) -> Outcome
-    ensures { λ r. ⌜ (r, now (out .exit)) ≡ sumAnswer m (now (a .entry)) (now (b .entry)) (now (out .entry)) ⌝ }
+// The sum of two blocks, which is the same at every width.
+pub fn sum(a: &[Elem], b: &[Elem], out: &mut [Elem])
+    requires { ⌜ (length (now b) ≡ length (now a)) × (length (now out) ≡ length (now a)) ⌝ }
+    ensures { λ _. ⌜ ((m : ℕ) → now (out .exit) ≡ blockSum (gf m) (now (a .entry)) (now (b .entry))) ⌝ }
 {
-    let number = pair_fault(m, a, b, out.len());
-    if number != 0 {
-        return Outcome::Refused(number);
+    for i in 0..a.len() {
+        out[i] = a[i] ^ b[i];
     }
-    internal::sum(a, b, out);
-    Outcome::Done
 }
 
-pub fn product(m: u32, a: &[Elem], b: &[Elem], out: &mut [Elem]) -> Outcome
-    ensures { λ r. ⌜ (r, now (out .exit)) ≡ productAnswer m (now (a .entry)) (now (b .entry)) (now (out .entry)) ⌝ }
+// The sum of a block's elements, which is the same at every width.
+pub fn total(a: &[Elem]) -> Elem
+    ensures { λ r. ⌜ ((m : ℕ) → r ≡ total (gf m) (now (a .entry))) ⌝ }
 {
-    let number = pair_fault(m, a, b, out.len());
-    if number != 0 {
-        return Outcome::Refused(number);
+    let mut sum: Elem = 0;
+    for i in 0..a.len() {
+        sum ^= a[i];
     }
-    internal::clear(out);
-    internal::add_product(m, a, b, out);
-    Outcome::Done
+    sum
 }
 
-pub fn inverse(m: u32, a: &[Elem], out: &mut [Elem]) -> Outcome
-    ensures { λ r. ⌜ (r, now (out .exit)) ≡ inverseAnswer m (now (a .entry)) (now (out .entry)) ⌝ }
+// Every entry divided by c.
+pub fn divide(m: u32, a: &[Elem], c: Elem, out: &mut [Elem])
+    requires { ⌜ Width m × Elements m (now a) × (c < 2 ^ m) × (length (now out) ≡ length (now a)) ⌝ }
+    ensures { λ _. ⌜ now (out .exit) ≡ quotient (gf m) (now (a .entry)) c ⌝ }
 {
-    let number = block_fault(m, a, out.len());
-    if number != 0 {
-        return Outcome::Refused(number);
+    let factor = field::internal::inverse(m, c);
+    for i in 0..a.len() {
+        out[i] = field::internal::product(m, a[i], factor);
     }
-    let sum = internal::total(a);
-    if sum == 0 {
-        return Outcome::Refused(9);
-    }
-    internal::divide(m, a, field::internal::product(m, sum, sum), out);
-    Outcome::Done
 }
 
-// The number that refuses a width, a block's length s and the length n of the buffer for a result, or 0.
-fn size_fault(m: u32, s: usize, n: usize) -> u32
-    ensures { λ r. ⌜ r ≡ sizeFault m s n ⌝ }
+pub fn clear(out: &mut [Elem])
+    ensures { λ _. ⌜ now (out .exit) ≡ tabulate (length (now (out .entry))) (λ (i : ℕ). 0) ⌝ }
 {
-    if m < field::internal::NARROWEST {
-        return 1;
+    for i in 0..out.len() {
+        out[i] = 0;
     }
-    if field::internal::WIDEST < m {
-        return 1;
-    }
-    if !slices::is_power(s) {
-        return 2;
-    }
-    if n != s {
-        return 2;
-    }
-    0
 }
 
-// The number that refuses a block, or 0.
-fn block_fault(m: u32, a: &[Elem], n: usize) -> u32
-    ensures { λ r. ⌜ r ≡ blockFault m (now (a .entry)) n ⌝ }
+// Adds the product of two blocks to what stands in out. A block of length 2h is two blocks of length h, and with a = (A, B) and b = (C, D) the
+// product is (AC + BD, AD + BC): the function calls itself on the halves, until the length is one.
+pub fn add_product(m: u32, a: &[Elem], b: &[Elem], out: &mut [Elem])
+    requires { ⌜ Factors m (now a) (now b) (now out) ⌝ }
+    ensures { λ _. ⌜ now (out .exit) ≡ blockSum (gf m) (now (out .entry)) (blockProduct (gf m) (now (a .entry)) (now (b .entry))) ⌝ }
 {
-    let number = size_fault(m, a.len(), n);
-    if number != 0 {
-        return number;
+    if a.len() == 1 {
+        add_single(m, a, b, out);
+        return;
     }
-    if !slices::all_elements(m, a) {
-        return 3;
-    }
-    0
+    let h = a.len() / 2;
+    let a_low = &a[..h];
+    let a_high = &a[h..];
+    let b_low = &b[..h];
+    let b_high = &b[h..];
+    add_product(m, a_low, b_low, &mut out[..h]);
+    add_product(m, a_high, b_high, &mut out[..h]);
+    add_product(m, a_low, b_high, &mut out[h..]);
+    add_product(m, a_high, b_low, &mut out[h..]);
 }
 
-// The number that refuses two blocks, or 0.
-fn pair_fault(m: u32, a: &[Elem], b: &[Elem], n: usize) -> u32
-    ensures { λ r. ⌜ r ≡ pairFault m (now (a .entry)) (now (b .entry)) n ⌝ }
+// The same for blocks of length one.
+fn add_single(m: u32, a: &[Elem], b: &[Elem], out: &mut [Elem])
+    requires { ⌜ Factors m (now a) (now b) (now out) × (length (now a) ≡ 1) ⌝ }
+    ensures { λ _. ⌜ now (out .exit) ≡ blockSum (gf m) (now (out .entry)) (blockProduct (gf m) (now (a .entry)) (now (b .entry))) ⌝ }
 {
-    let number = size_fault(m, a.len(), n);
-    if number != 0 {
-        return number;
-    }
-    if b.len() != a.len() {
-        return 2;
-    }
-    if !slices::all_elements(m, a) {
-        return 3;
-    }
-    if !slices::all_elements(m, b) {
-        return 3;
-    }
-    0
+    out[0] ^= field::internal::product(m, a[0], b[0]);
 }

@@ -2,11 +2,21 @@
 use field::Elem;
 use io::print_decimal;
 use libc::STDOUT_FILENO;
+use params::Parameters;
+use refusals::Outcome;
 use repair::Recovery;
-use slices::Outcome;
 
 // Card T.
 const TOY: [Elem; 16] = [12, 8, 10, 22, 26, 9, 16, 21, 14, 5, 17, 4, 30, 23, 25, 31];
+
+// Card T's numbers.
+fn toy() -> Parameters {
+    code(5, 16, 2, 24)
+}
+
+fn code(m: u32, n: u32, t: u32, omega: u32) -> Parameters {
+    Parameters { m, n, t, omega }
+}
 
 fn print(text: &[u8]) {
     io::write_all(STDOUT_FILENO, text);
@@ -61,8 +71,9 @@ fn show_toy() {
     let mut roots: [Elem; 16] = [0; 16];
     let mut support: [Elem; 16] = [0; 16];
     let mut roles: [u8; 16] = [0; 16];
-    params::check(5, 16, 2, 24, &TOY, &mut roots, &mut support);
-    words::roles(5, 16, 2, 24, &TOY, &mut roles);
+    let c = toy();
+    params::check(c, &TOY, &mut roots, &mut support);
+    words::roles(c, &TOY, &mut roles);
     print(b"toy example: support");
     print_elements(&support);
     print(b"toy example: roots");
@@ -73,13 +84,13 @@ fn show_toy() {
 
 fn show_repair(received: &[u8]) {
     let mut repaired: [u8; 16] = [0; 16];
-    let recovery = repair::repair(5, 16, 2, 24, &TOY, received, &mut repaired);
+    let recovery = repair::repair(toy(), &TOY, received, &mut repaired);
     print_recovery(recovery, &repaired);
 }
 
 fn show_row() {
     let mut word: [u8; 16] = [0; 16];
-    rows::write_row(5, 16, 2, 24, &TOY, 1, 0, &mut word);
+    rows::write_row(toy(), &TOY, 1, 0, &mut word);
     print(b"first, dark: ones at");
     print_ones(&word);
     let first = word[0];
@@ -104,7 +115,7 @@ fn show_width(m: u32) {
     print(b"m");
     print_number(m as u64);
     print(b":");
-    print_outcome(params::check(m, 2, 1, 0, &h, &mut roots, &mut support));
+    print_outcome(params::check(code(m, 2, 1, 0), &h, &mut roots, &mut support));
 }
 
 // Whether a length of 3 is accepted, which no signature decides.
@@ -113,7 +124,7 @@ fn show_length_3() {
     let mut roots: [Elem; 3] = [0; 3];
     let mut support: [Elem; 3] = [0; 3];
     print(b"n 3:");
-    print_outcome(params::check(8, 3, 1, 0, &h, &mut roots, &mut support));
+    print_outcome(params::check(code(8, 3, 1, 0), &h, &mut roots, &mut support));
 }
 
 // The same for a length of 256.
@@ -122,7 +133,7 @@ fn show_length_256() {
     let mut roots: [Elem; 256] = [0; 256];
     let mut support: [Elem; 256] = [0; 256];
     print(b"n 256:");
-    print_outcome(params::check(8, 256, 1, 0, &h, &mut roots, &mut support));
+    print_outcome(params::check(code(8, 256, 1, 0), &h, &mut roots, &mut support));
 }
 
 // Whether card A with t roots is accepted.
@@ -133,7 +144,7 @@ fn show_root_count(t: u32) {
     print(b"n 4, t");
     print_number(t as u64);
     print(b":");
-    print_outcome(params::check(3, 4, t, 0, &h, &mut roots, &mut support));
+    print_outcome(params::check(code(3, 4, t, 0), &h, &mut roots, &mut support));
 }
 
 // A code whose only code word is zero: k is 0.
@@ -142,7 +153,7 @@ fn show_empty_message() {
     let message: [u8; 2] = [0; 2];
     let mut word: [u8; 2] = [1; 2];
     print(b"k 0, the empty message:");
-    print_outcome(words::encode(2, 2, 1, 0, &h, &message[..0], &mut word));
+    print_outcome(words::encode(code(2, 2, 1, 0), &h, &message[..0], &mut word));
     print(b"its word has ones at");
     print_ones(&word);
 }

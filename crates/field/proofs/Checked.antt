@@ -2,7 +2,8 @@
 use mathlib.Core.Path.{_≡_}
 use mathlib.Core.List.{[], _∷_}
 use Prim.Native.Nat.{ℕ, _^_, _<_}
-use Rattle.field.specs.Rules.{_unless_, isWidth, isElement, hold, width-is, element-is}
+use Rattle.refusals.specs.Rules.{_unless_, hold}
+use Rattle.field.specs.Range.{isWidth, isElement, width-is, element-is}
 use Rattle.field.specs.Answers.{elementRules, elementFault, pairFault}
 use Rattle.field.specs.Gf.{Width}
 

@@ -1,12 +1,12 @@
 -- The arithmetic of `internal`, over plain numbers: what its functions compute a step at a time is the product of specs/.
 use mathlib.Core.Path.{_≡_, refl, sym, ap, ap₂, _∙_, subst}
-use mathlib.Core.Logic.{_≢_}
 use Prim.Native.Nat.{ℕ, zero, suc, pred, _+_, _-_, _*_, _/_, _%_, _^_, _≤_, _<_, suc-le-suc}
 use native.Mathlib.Nat.{zero-mul, one-mul, mod-eq-of-lt, div-eq-of-lt, lt-of-lt-of-le, div-lt-iff-lt-mul}
 use native.Mathlib.Decide.{decLt}
 use native.Mathlib.Omega.{arith}
 use native.Mathlib.Numerals.{sub-one}
-use lib.Dec.{lit<}
+use lib.Dec.{lit<, eqb, ltb}
+use borrow.Author.Tests.{eq-eqb, ne-eqb, lt-ltb, le-ltb}
 use lib.Pow.{pow-pos, pow-mono}
 use lib.Bits.{bitXor}
 use Rattle.algebra.specs.Xor.{_⊕_, ⊕-assoc, ⊕-zero, zero-⊕, ⊕-lt}
@@ -16,17 +16,19 @@ use Rattle.field.specs.Ring.{Degree, timesU-lt, bit-lt, product-horner, 
 use Rattle.field.specs.Inverse.{inverse-lt}
 use Rattle.field.specs.Words.{word, widest}
 use Rattle.field.specs.Gf.{Width, gf-isField}
+use Rattle.field.specs.Range.{isElement}
 
 -- the range test by a shift: a number is below 2^m exactly if nothing is left of it
-pub shifted-out : (m a : ℕ) → a / 2 ^ m ≢ 0 → 2 ^ m ≤ a
-shifted-out m a ne = decided (decLt a (2 ^ m))
+pub shifted-test : (m a : ℕ) → eqb (a / 2 ^ m) 0 ≡ isElement m a
+unfolding isElement
+shifted-test m a = decided (decLt a (2 ^ m))
   where
-    decided : Dec (a < 2 ^ m) → 2 ^ m ≤ a
-    decided (yes l) = absurd (ne (div-eq-of-lt l))
-    decided (no nl) = omega arith
+    outside : a / 2 ^ m ≡ 0 → a < 2 ^ m
+    outside e = subst (λ (x : ℕ). a < x) (one-mul (2 ^ m)) (div-lt-iff-lt-mul (pow-pos m) .0 (subst (λ (x : ℕ). x < 1) (sym e) (lit< tt)))
 
-pub shifted-in : (m a : ℕ) → a / 2 ^ m ≡ 0 → a < 2 ^ m
-shifted-in m a e = subst (λ (x : ℕ). a < x) (one-mul (2 ^ m)) (div-lt-iff-lt-mul (pow-pos m) .0 (subst (λ (x : ℕ). x < 1) (sym e) (lit< tt)))
+    decided : Dec (a < 2 ^ m) → eqb (a / 2 ^ m) 0 ≡ ltb a (2 ^ m)
+    decided (yes l) = eq-eqb (a / 2 ^ m) 0 (div-eq-of-lt l) ∙ sym (lt-ltb a (2 ^ m) l)
+    decided (no nl) = ne-eqb (a / 2 ^ m) 0 (λ e. nl (outside e)) ∙ sym (le-ltb a (2 ^ m) (omega arith))
 
 module _ (m : ℕ) (W : Width m) where
   abbrev w : ℕ
@@ -121,7 +123,8 @@ module _ (m : ℕ) (W : Width m) where
         bound = D .positive;
         squared-lt = h;
         result-lt = lt-of-lt-of-le (lit< tt) (pow-mono (D .positive));
-        whole = ap (λ (k : ℕ). product m w 1 (squares m w k a)) (sub-one m) ∙ product-one m w D (squares m w (pred m) a) (inverse-lt m w (gf-isField m W) a);
+        whole = ap (λ (k : ℕ). product m w 1 (squares m w k a)) (sub-one m)
+            ∙ product-one m w D (squares m w (pred m) a) (inverse-lt m w (gf-isField m W) a);
       }
 
   pub chain-turn : (a squared result i : ℕ) → i < m → Chaining a squared result i

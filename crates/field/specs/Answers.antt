@@ -8,7 +8,8 @@ use Rattle.field.specs.declared.Answer.{Answer}
 use Rattle.field.specs.declared.Answer.the-variants.{Element, Refused}
 use Rattle.field.specs.Product.{product, inverse}
 use Rattle.field.specs.Words.{word}
-use Rattle.field.specs.Rules.{Rule, _unless_, fault, unless-refused, isWidth, isElement}
+use Rattle.refusals.specs.Rules.{Rule, _unless_, fault, unless-refused}
+use Rattle.field.specs.Range.{isWidth, isElement}
 
 unfoldable pub elementRules : ℕ → ℕ → List Rule
 elementRules m a = (1 unless isWidth m) ∷ (3 unless isElement m a) ∷ []

@@ -69,7 +69,8 @@ module _ (m w : ℕ) (G : IsField m w) where
   -- squaring is additive
   square-⊕ : (a b : ℕ) → (a ⊕ b) · (a ⊕ b) ≡ a · a ⊕ b · b
   square-⊕ a b =
-      product-⊕ m w D (a ⊕ b) a b ∙ ap₂ (λ (x y : ℕ). x ⊕ y) (right a b a ∙ ap (λ (x : ℕ). a · a ⊕ x) (comm b a)) (right a b b) ∙ cancel (a · a) (a · b) (b · b)
+      product-⊕ m w D (a ⊕ b) a b ∙ ap₂ (λ (x y : ℕ). x ⊕ y) (right a b a ∙ ap (λ (x : ℕ). a · a ⊕ x) (comm b a)) (right a b b)
+      ∙ cancel (a · a) (a · b) (b · b)
     where
       cancel : (x y z : ℕ) → (x ⊕ y) ⊕ (y ⊕ z) ≡ x ⊕ z
       cancel x y z = simp xor
@@ -170,7 +171,8 @@ module _ (m w : ℕ) (G : IsField m w) where
   squares-snoc : (k a : ℕ) → squares m w (suc k) a ≡ squares m w k a · squared m w (suc k) a
   unfolding squares squared
   squares-snoc zero a = product-one′ (a · a) (product-lt m w D a a) ∙ sym (product-one m w D (a · a) (product-lt m w D a a))
-  squares-snoc (suc k) a = ap (λ (x : ℕ). (a · a) · x) (squares-snoc k (a · a)) ∙ sym (assoc (a · a) (squares m w k (a · a)) (squared m w (suc k) (a · a)))
+  squares-snoc (suc k) a = ap (λ (x : ℕ). (a · a) · x) (squares-snoc k (a · a))
+      ∙ sym (assoc (a · a) (squares m w k (a · a)) (squared m w (suc k) (a · a)))
 
   squares-square : (k a : ℕ) → squares m w k a · squares m w k a ≡ squares m w k (a · a)
   unfolding squares

@@ -6,5 +6,5 @@ pub mod Inverse
 pub mod Words
 pub mod Test
 pub mod Gf
-pub mod Rules
+pub mod Range
 pub mod Answers

@@ -69,12 +69,14 @@ module _ (m w : ℕ) (D : Degree m w) where
   timesU-lt a h = cutBack-lt (a * 2) (subst (λ (x : ℕ). a * 2 < x) (sym (pow-suc 2 m)) (omega arith))
 
   pub bit-lt : (b a : ℕ) → a < 2 ^ m → (b % 2) * a < 2 ^ m
-  bit-lt b a h = bit-cases (λ (s : ℕ). s * a < 2 ^ m) (subst (λ (x : ℕ). x < 2 ^ m) (sym (zero-mul a)) (pow-pos m)) (subst (λ (x : ℕ). x < 2 ^ m) (sym (one-mul a)) h) b
+  bit-lt b a h = bit-cases (λ (s : ℕ). s * a < 2 ^ m) (subst (λ (x : ℕ). x < 2 ^ m) (sym (zero-mul a)) (pow-pos m))
+      (subst (λ (x : ℕ). x < 2 ^ m) (sym (one-mul a)) h) b
 
   pub horner-lt : (k b a : ℕ) → a < 2 ^ m → horner m w k b a < 2 ^ m
   unfolding horner
   horner-lt zero b a h = pow-pos m
-  horner-lt (suc k) b a h = ⊕-lt m ((b % 2) * a) (timesU m w (horner m w k (b / 2) a)) (bit-lt b a h) (timesU-lt (horner m w k (b / 2) a) (horner-lt k (b / 2) a h))
+  horner-lt (suc k) b a h = ⊕-lt m ((b % 2) * a) (timesU m w (horner m w k (b / 2) a)) (bit-lt b a h)
+      (timesU-lt (horner m w k (b / 2) a) (horner-lt k (b / 2) a h))
 
   -- below half the range u is a shift
   timesU-shift : (k x : ℕ) → suc k ≤ m → x < 2 ^ k → timesU m w x ≡ x * 2

@@ -2,17 +2,33 @@
 use crate::Elem;
 ghost use mathlib.Core.Path.{_≡_};
 ghost use Prim.Native.Nat.{_<_, _^_};
+ghost use Rattle.field.specs.Range.{isWidth, isElement};
 ghost use Rattle.field.specs.Words.{word};
 ghost use Rattle.field.specs.Horner.{timesU};
 ghost use Rattle.field.specs.Product.{product, inverse};
 ghost use Rattle.field.specs.Gf.{Width};
 
-pub const NARROWEST: u32 = 2;
+const NARROWEST: u32 = 2;
 
-pub const WIDEST: u32 = 8;
+const WIDEST: u32 = 8;
 
 // The reduction word of each width, at the width: bit i is the coefficient of u^i. There is none for widths 0 and 1.
 const WORDS: [u32; WIDEST as usize + 1] = [0, 0, 0x7, 0xB, 0x13, 0x25, 0x43, 0x83, 0x11D];
+
+// Whether the table has a word for the width.
+pub fn is_width(m: u32) -> bool
+    ensures { λ r. ⌜ r ≡ isWidth m ⌝ }
+{
+    (NARROWEST <= m) & (m <= WIDEST)
+}
+
+// Whether the number is an element of the field of width m.
+pub fn is_element(m: u32, a: u32) -> bool
+    requires { ⌜ Width m ⌝ }
+    ensures { λ r. ⌜ r ≡ isElement m a ⌝ }
+{
+    a >> m == 0
+}
 
 // u times an element: shifted, and the width's word taken away once if the bit of u^m ran over. There is no branch, so that every product takes the
 // same steps.

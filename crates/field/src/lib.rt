@@ -43,7 +43,7 @@ pub fn inverse(m: u32, a: u32) -> Answer
         return Answer::Refused(number);
     }
     if a == 0 {
-        return Answer::Refused(4);
+        return Answer::Refused(refusals::ZERO);
     }
     Answer::Element(internal::inverse(m, a as Elem))
 }
@@ -52,14 +52,11 @@ pub fn inverse(m: u32, a: u32) -> Answer
 fn element_fault(m: u32, a: u32) -> u32
     ensures { λ r. ⌜ r ≡ elementFault m a ⌝ }
 {
-    if m < internal::NARROWEST {
-        return 1;
+    if !internal::is_width(m) {
+        return refusals::WIDTH;
     }
-    if internal::WIDEST < m {
-        return 1;
-    }
-    if a >> m != 0 {
-        return 3;
+    if !internal::is_element(m, a) {
+        return refusals::RANGE;
     }
     0
 }
@@ -72,8 +69,8 @@ fn pair_fault(m: u32, a: u32, b: u32) -> u32
     if number != 0 {
         return number;
     }
-    if b >> m != 0 {
-        return 3;
+    if !internal::is_element(m, b) {
+        return refusals::RANGE;
     }
     0
 }

@@ -1,72 +1,62 @@
--- The lines of a listing, as the program prints them one after the other.
-use mathlib.Core.Path.{_≡_, refl, sym, ap, ap₂, _∙_, subst}
-use mathlib.Core.Bool.{cond}
-use mathlib.Core.List.{List, [], _∷_, _++_}
-use Prim.Native.Nat.{ℕ, zero, suc, _+_, _-_, _*_, _≤_, _<_}
-use native.Mathlib.Omega.{arith}
-use lib.ListN.{length, length-append}
-use Rattle.algebra.specs.Tabulate.{tabulate, getD-tabulate}
-use Rattle.field.specs.Gf.{gf}
-use Rattle.params.specs.Existence.{supportAt}
-use Rattle.params.specs.Tests.{entryOf}
+-- The lines of a listing, as the program computes them and prints them one after the other.
+use mathlib.Core.Path.{_≡_, sym, ap, ap₂, _∙_, subst}
+use mathlib.Core.List.{List, _++_}
+use Prim.Native.Nat.{ℕ, _+_, _≤_}
+use native.Mathlib.Nat.{le-of-eq}
+use lib.ListN.{length, take, replicate}
+use lib.Seq.{length-take-le}
+use Rattle.algebra.specs.Places.{count, count-le}
+use Rattle.algebra.specs.Tabulate.{tabulate}
+use Rattle.slices.specs.Lengths.{longest}
+use Rattle.params.specs.declared.Parameters.{Parameters}
+use Rattle.params.specs.Code.{Accepted, n-short}
+use Rattle.signature.specs.Inverses.{Inverted}
+use Rattle.signature.specs.Tests.{added}
+use Rattle.signature.proofs.Stored.{support-is}
+use Rattle.words.specs.Selected.{length-whole}
 use Rattle.words.specs.Word.{whole}
-use Rattle.words.specs.Columns.{isMessageColumn, rolesOf}
-use Rattle.words.specs.Answers.{messageLength}
-use Rattle.words.proofs.Meaning.{length-whole}
-use Rattle.listing.specs.Columns.{joined, lineText, lineLength}
-use Rattle.listing.specs.Listing.{codeText, columnText, listingText, listingLength, columnLine, linesText}
-use Rattle.listing.specs.Reading.{length-joined, length-line}
-use Rattle.listing.specs.Written.{written, over, written-more, written-over}
+use Rattle.words.specs.Columns.{isMessageColumn, rolesOf, dimension}
+use Rattle.words.specs.Answers.{columns, messageLength}
+use Rattle.fields.specs.Fields.{joined, lineLength}
+use Rattle.fields.specs.Written.{written, over, written-more, written-over}
+use Rattle.listing.specs.Listing.{codeLine, columnLine, linesText, supportOf, listingText, listingLength}
+use Rattle.listing.specs.Laws.{length-code, length-lines}
 
-pub length-columns : (h support roles : List ℕ) (k : ℕ) → length (joined k (columnLine h support roles)) ≡ k * lineLength 4
-unfolding columnLine
-length-columns h support roles =
-    length-joined (lineLength 4) (columnLine h support roles) (λ j. length-line (j ∷ entryOf h j ∷ entryOf support j ∷ entryOf roles j ∷ []))
+-- n entries of a local array
+pub n-taken : {c : Parameters} {h : List ℕ} → Accepted c h → c .n ≡ length {A = ℕ} (take (c .n) (replicate longest 0))
+n-taken {c} A = sym (length-take-le (c .n) (replicate longest 0) (n-short (A .limits)))
 
-joined-cong : (n : ℕ) {f g : ℕ → List ℕ} → ((i : ℕ) → i < n → f i ≡ g i) → joined n f ≡ joined n g
-unfolding joined
-joined-cong zero e = refl
-joined-cong (suc n) e = ap₂ (λ (x y : List ℕ). x ++ y) (joined-cong n (λ i l. e i (omega arith))) (e n (omega arith))
+-- no more message columns than columns
+pub k-small : (c : Parameters) (h : List ℕ) → messageLength c h ≤ c .n
+unfolding dimension
+k-small c h =
+    subst (λ (k : ℕ). count (length (whole (c .n))) (isMessageColumn c h (whole (c .n))) ≤ k) (length-whole (c .n))
+    (count-le (length (whole (c .n))) (isMessageColumn c h (whole (c .n))))
 
-length-rows : (first : List ℕ) (f : ℕ → List ℕ) (n : ℕ) → length first ≡ lineLength 6 → ((j : ℕ) → length (f j) ≡ lineLength 4)
-    → length (first ++ joined n f) ≡ listingLength n
-length-rows first f n e w = length-append first (joined n f) ∙ ap₂ (λ (x y : ℕ). x + y) e (length-joined (lineLength 4) f w n)
+-- the sums that are stored are the support
+pub support-held : {c : Parameters} {h inverses : List ℕ} {k : ℕ} → Accepted c h → Inverted (c .m) h inverses → k ≡ c .n
+    → tabulate k (added inverses (added inverses (c .omega) 0)) ≡ supportOf c h
+support-held {c} {h} {inverses} A I e =
+    ap (λ (k : ℕ). tabulate k (added inverses (added inverses (c .omega) 0))) e
+    ∙ support-is I (c .n) (le-of-eq (sym (A .limits .h-length))) (c .omega)
 
-module _ (m n t ω : ℕ) (h : List ℕ) where
-  pub length-listing : length (listingText m n t ω h) ≡ listingLength n
-  unfolding listingText codeText columnText
-  length-listing = length-rows (codeText m n t ω h) (columnText m n t ω h) n (length-line _) (λ j. length-line _)
-
-  module _ (support roles : List ℕ) (S : support ≡ tabulate n (supportAt (gf m) ω (entryOf h))) (R : roles ≡ rolesOf m t ω h (whole n)) where
-    column-line : (j : ℕ) → j < n → columnLine h support roles j ≡ columnText m n t ω h j
-    unfolding columnLine columnText rolesOf
-    column-line j l =
-        ap₂ (λ (x y : ℕ). lineText (j ∷ entryOf h j ∷ x ∷ y ∷ []))
-        (ap (λ (s : List ℕ). entryOf s j) S ∙ getD-tabulate n (supportAt (gf m) ω (entryOf h)) j 0 l)
-        (ap (λ (s : List ℕ). entryOf s j) R
-        ∙ getD-tabulate (length (whole n)) (λ j. cond (isMessageColumn m t ω h (whole n) j) 1 0) j 0
-        (subst (λ (i : ℕ). j < i) (sym (length-whole n)) l))
-
-    pub lines-are : {k : ℕ} → k ≡ messageLength m n t ω h → linesText m n t ω k h support roles ≡ listingText m n t ω h
-    unfolding linesText listingText codeText
-    lines-are e =
-        ap₂ (λ (i : ℕ) (l : List ℕ). lineText (m ∷ n ∷ t ∷ ω ∷ (n - i) ∷ i ∷ []) ++ l) e (joined-cong n column-line)
+-- what is computed is the listing's
+pub listing-written : (c : Parameters) (h old : List ℕ) {k : ℕ} {support roles new : List ℕ} → k ≡ messageLength c h → support ≡ supportOf c h
+    → roles ≡ rolesOf c h (columns c h) → new ≡ over (linesText c k h support roles) old → new ≡ over (listingText c h) old
+unfolding listingText
+listing-written c h old {roles = roles} e s r w =
+    w ∙ ap₂ (λ (i : ℕ) (l : List ℕ). over (linesText c i h l roles) old) e s
+    ∙ ap (λ (l : List ℕ). over (linesText c (messageLength c h) h (supportOf c h) l) old) r
 
 -- the line of the code, and then those of its columns
-module _ (m n t ω k : ℕ) (h support roles : List ℕ) where
-  length-lines : length (linesText m n t ω k h support roles) ≡ listingLength n
-  unfolding linesText columnLine
-  length-lines =
-      length-rows (lineText (m ∷ n ∷ t ∷ ω ∷ (n - k) ∷ k ∷ [])) (columnLine h support roles) n (length-line (m ∷ n ∷ t ∷ ω ∷ (n - k) ∷ k ∷ []))
-      (λ j. length-line _)
-
-  pub lines-written : {p : ℕ} {mid new : List ℕ} (old : List ℕ) → length h ≡ n → listingLength n ≤ length old
-      → mid ≡ written old 0 (lineText (m ∷ n ∷ t ∷ ω ∷ (n - k) ∷ k ∷ [])) → p ≡ 0 + lineLength 6
-      → new ≡ written mid p (joined (length h) (columnLine h support roles)) → new ≡ over (linesText m n t ω k h support roles) old
+module _ (c : Parameters) (k : ℕ) (h support roles old : List ℕ) where
+  pub lines-written : {p : ℕ} {mid new : List ℕ} → length h ≡ c .n → listingLength (c .n) ≤ length old
+      → mid ≡ written old 0 (codeLine c k) → p ≡ 0 + lineLength 6
+      → new ≡ written mid p (joined (length h) (columnLine h support roles)) → new ≡ over (linesText c k h support roles) old
   unfolding linesText
-  lines-written {p} old long fits first at rest =
-      let line = lineText (m ∷ n ∷ t ∷ ω ∷ (n - k) ∷ k ∷ []) in
-      let columns = joined n (columnLine h support roles) in
+  lines-written {p} long fits first at rest =
+      let lines = joined (c .n) (columnLine h support roles) in
       rest ∙ ap₂ (λ (x : List ℕ) (i : ℕ). written x p (joined i (columnLine h support roles))) first long
-      ∙ ap (λ (i : ℕ). written (written old 0 line) i columns) (at ∙ ap (λ (i : ℕ). 0 + i) (sym (length-line (m ∷ n ∷ t ∷ ω ∷ (n - k) ∷ k ∷ []))))
-      ∙ written-more line columns old 0 ∙ written-over (line ++ columns) old (subst (λ (i : ℕ). i ≤ length old) (sym length-lines) fits)
+      ∙ ap (λ (i : ℕ). written (written old 0 (codeLine c k)) i lines) (at ∙ ap (λ (i : ℕ). 0 + i) (sym (length-code c k)))
+      ∙ written-more (codeLine c k) lines old 0
+      ∙ written-over (codeLine c k ++ lines) old (subst (λ (i : ℕ). i ≤ length old) (sym (length-lines c k h support roles)) fits)

@@ -1,21 +1,23 @@
--- The code on a sheet, as the program holds it: four numbers, and a buffer whose first n entries are the signature.
-use mathlib.Core.Path.{_≡_, refl, sym, ap, _∙_, subst}
+-- The code on a sheet, as the program holds it: its numbers, and a buffer whose first n entries are the signature.
+use mathlib.Core.Path.{_≡_, refl, sym, ap, ap₂, _∙_, subst}
 use mathlib.Core.Bool.{true}
 use mathlib.Core.List.{List, _++_}
 use Prim.Native.Nat.{ℕ, _*_, _+_, _≤_}
-use lib.Dec.{T, lit<}
+use lib.Dec.{lit<}
 use lib.ListN.{length, take, drop}
 use lib.Seq.{take-at, length-take-le}
 use Rattle.algebra.specs.Tabulate.{length-tabulate}
-use Rattle.field.specs.Rules.{fault-past, numbered, hold}
-use Rattle.params.specs.Code.{Accepted, accepted, code-numbered}
+use Rattle.refusals.specs.Rules.{fault-past}
+use Rattle.params.specs.declared.Parameters.{Parameters}
 use Rattle.params.specs.Answers.{codeFault}
-use Rattle.listing.specs.Columns.{columns, greatest, numberAt, numbersAt}
-use Rattle.listing.specs.Sheet.{second, OnSheet, sheetM, sheetN, sheetT, sheetω, sheetH, isSheet}
+use Rattle.params.specs.Code.{Accepted}
+use Rattle.signature.specs.Inverses.{Inverted}
+use Rattle.fields.specs.Fields.{fieldWidth, greatest, numberAt, numbersAt}
+use Rattle.listing.specs.Sheet.{second, sheetParameters, sheetN, sheetH, isSheet}
 use Rattle.listing.specs.Listing.{listingText, listingLength}
 use Rattle.listing.specs.Reading.{head-small}
-use Rattle.listing.specs.Answers.{sheetRules, sheetFault, sheetListing}
-use Rattle.listing.proofs.Rows.{length-listing}
+use Rattle.listing.specs.Answers.{sheetRules, sheetFault, sheetListing, SheetRead}
+use Rattle.listing.specs.Laws.{sheet-accepted, length-listing}
 
 pub n-small : (text : List ℕ) {n : ℕ} → isSheet text ≡ true → n ≡ sheetN text → n ≤ greatest
 n-small text s e = subst (λ (k : ℕ). k ≤ greatest) (sym e) (head-small text s 1 (lit< tt))
@@ -26,43 +28,46 @@ pub signature-read : (text h l : List ℕ) (n : ℕ) → n ≡ sheetN text → n
 unfolding numbersAt
 signature-read text h l n e fits r =
     ap (λ (k : ℕ). take k (l ++ drop n h)) (sym e)
-    ∙ take-at l (drop n h) n (ap length read ∙ length-tabulate n (λ i. numberAt text (second + i * columns))) ∙ read ∙ ap (numbersAt text second) e
+    ∙ take-at l (drop n h) n (ap length read ∙ length-tabulate n (λ i. numberAt text (second + i * fieldWidth))) ∙ read ∙ ap (numbersAt text second) e
   where
     read : l ≡ numbersAt text second n
     read = r ∙ ap (numbersAt text second) (length-take-le n h fits)
 
--- the code as it is held is the one on the sheet
-module _ (text h : List ℕ) {m n t ω : ℕ} (O : OnSheet text m n t ω) (h-is : take (sheetN text) h ≡ sheetH text) where
-  pub code-on-sheet : isSheet text ≡ true → codeFault true m n t ω (take n h) ≡ sheetFault text
-  unfolding sheetFault sheetRules codeFault
-  code-on-sheet s = same ∙ sym (fault-past 13 _ s refl)
-    where
-      same : codeFault true m n t ω (take n h) ≡ codeFault true (sheetM text) (sheetN text) (sheetT text) (sheetω text) (sheetH text)
-      same = cc (O .m-is, O .n-is, O .t-is, O .ω-is)
+-- the numbers as they are held are those on the sheet
+module _ (text : List ℕ) {c : Parameters} (on : c ≡ sheetParameters text) where
+  pub n-is : c .n ≡ sheetN text
+  n-is = ap (λ (p : Parameters). p .n) on
 
-  pub listing-on-sheet : listingText m n t ω (take n h) ≡ sheetListing text
+  pub length-sheet-listing : length (sheetListing text) ≡ listingLength (c .n)
   unfolding sheetListing
-  listing-on-sheet = cc (O .m-is, O .n-is, O .t-is, O .ω-is)
+  length-sheet-listing = length-listing (sheetParameters text) (sheetH text) ∙ ap listingLength (sym n-is)
 
-  pub accepted-on-sheet : isSheet text ≡ true → sheetFault text ≡ 0 → Accepted m n t ω (take n h)
-  unfolding codeFault
-  accepted-on-sheet s z = accepted true m n t ω (take n h) (code-on-sheet s ∙ z) .1
+  -- and so is the signature
+  module _ (h : List ℕ) (signature : take (sheetN text) h ≡ sheetH text) where
+    h-is : take (c .n) h ≡ sheetH text
+    h-is = ap (λ (k : ℕ). take k h) n-is ∙ signature
 
-module _ (text : List ℕ) where
-  pub sheet-numbered : T (numbered (sheetRules text))
-  unfolding sheetRules
-  sheet-numbered = code-numbered true (sheetM text) (sheetN text) (sheetT text) (sheetω text) (sheetH text)
+    pub code-on-sheet : isSheet text ≡ true → codeFault true c (take (c .n) h) ≡ sheetFault text
+    unfolding sheetFault sheetRules codeFault
+    code-on-sheet s = ap₂ (codeFault true) on h-is ∙ sym (fault-past 13 _ s refl)
 
-  -- only a sheet is not refused
-  pub sheet-is : sheetFault text ≡ 0 → isSheet text ≡ true
-  unfolding sheetFault sheetRules
-  sheet-is z = hold (sheetRules text) sheet-numbered z .0
+    pub listing-on-sheet : listingText c (take (c .n) h) ≡ sheetListing text
+    unfolding sheetListing
+    listing-on-sheet = ap₂ listingText on h-is
 
-  pub sheet-accepted : sheetFault text ≡ 0 → Accepted (sheetM text) (sheetN text) (sheetT text) (sheetω text) (sheetH text)
-  unfolding sheetFault sheetRules
-  sheet-accepted z =
-      accepted true (sheetM text) (sheetN text) (sheetT text) (sheetω text) (sheetH text) (sym (fault-past 13 _ (sheet-is z) refl) ∙ z) .1
+    pub sheet-held : {inverses : List ℕ} → sheetFault text ≡ 0 → c .n ≤ length h → Inverted (c .m) (take (c .n) h) inverses
+        → SheetRead text h inverses
+    sheet-held {inverses} z fits I =
+        record {
+          none = z;
+          fits = subst (λ (k : ℕ). k ≤ length h) n-is fits;
+          signature = signature;
+          inverted = subst (λ (l : List ℕ). Inverted (sheetParameters text .m) l inverses) h-is
+              (subst (λ (d : Parameters). Inverted (d .m) (take (c .n) h) inverses) on I);
+        }
 
-  pub length-sheet-listing : {n : ℕ} → n ≡ sheetN text → length (sheetListing text) ≡ listingLength n
-  unfolding sheetListing
-  length-sheet-listing e = length-listing (sheetM text) (sheetN text) (sheetT text) (sheetω text) (sheetH text) ∙ ap listingLength (sym e)
+  pub code-held : {h inverses : List ℕ} → SheetRead text h inverses → Accepted c (take (c .n) h) × Inverted (c .m) (take (c .n) h) inverses
+  code-held {h} {inverses} S =
+      subst (λ (l : List ℕ). Accepted c l × Inverted (c .m) l inverses) (sym (h-is h (S .signature)))
+      (subst (λ (d : Parameters). Accepted d (sheetH text) × Inverted (d .m) (sheetH text) inverses) (sym on)
+      (sheet-accepted text (S .none), S .inverted))

@@ -1,17 +1,19 @@
 -- What the calls answer, and what they leave in the lent buffer, for every text and every buffer.
+use mathlib.Core.Path.{_≡_}
 use mathlib.Core.Bool.{true}
 use mathlib.Core.List.{List, [], _∷_, _++_}
-use Prim.Native.Nat.{ℕ}
+use Prim.Native.Nat.{ℕ, _≤_}
 use lib.Dec.{leb}
-use lib.ListN.{length}
-use Rattle.field.specs.Rules.{Rule, _unless_, fault, unless-refused}
+use lib.ListN.{length, take}
+use Rattle.refusals.specs.Rules.{Rule, _unless_, fault, unless-refused}
 use Rattle.params.specs.Code.{codeRules}
+use Rattle.signature.specs.Inverses.{Inverted}
+use Rattle.fields.specs.Fields.{lineText}
+use Rattle.fields.specs.Written.{over}
 use Rattle.listing.specs.declared.Listed.{Listed}
 use Rattle.listing.specs.declared.Listed.the-variants.{Length, Refused}
-use Rattle.listing.specs.Columns.{lineText}
-use Rattle.listing.specs.Sheet.{sheetM, sheetN, sheetT, sheetω, sheetH, isSheet}
+use Rattle.listing.specs.Sheet.{sheetParameters, sheetN, sheetH, isSheet}
 use Rattle.listing.specs.Listing.{listingText}
-use Rattle.listing.specs.Written.{over}
 
 -- a buffer too short for a text is refused by 2
 unfoldable pub roomRules : List ℕ → List ℕ → List Rule
@@ -29,14 +31,14 @@ module _ (text out : List ℕ) where
 module _ (text : List ℕ) where
   -- 13, 01's "sheet", "which comes first of all"; then those of the code on the sheet
   unfoldable pub sheetRules : List Rule
-  sheetRules = (13 unless isSheet text) ∷ codeRules true (sheetM text) (sheetN text) (sheetT text) (sheetω text) (sheetH text)
+  sheetRules = (13 unless isSheet text) ∷ codeRules true (sheetParameters text) (sheetH text)
 
   unfoldable pub sheetFault : ℕ
   sheetFault = fault sheetRules
 
   -- the listing of the code on the sheet
   unfoldable pub sheetListing : List ℕ
-  sheetListing = listingText (sheetM text) (sheetN text) (sheetT text) (sheetω text) (sheetH text)
+  sheetListing = listingText (sheetParameters text) (sheetH text)
 
   -- ---- listing
 
@@ -59,3 +61,11 @@ module _ (text : List ℕ) where
 
   unfoldable pub printedAfter : List ℕ → List ℕ
   printedAfter out = storedAfter printedText out
+
+-- ---- a sheet that is not refused, as the calls hold it: h begins with the signature, and `inverses` with the inverses of its entries
+
+pub record SheetRead (text h inverses : List ℕ) : Type 0 where
+  pub none : sheetFault text ≡ 0
+  pub fits : sheetN text ≤ length h
+  pub signature : take (sheetN text) h ≡ sheetH text
+  pub inverted : Inverted (sheetParameters text .m) (sheetH text) inverses

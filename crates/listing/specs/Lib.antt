@@ -1,6 +1,5 @@
-pub mod Columns
 pub mod Sheet
 pub mod Listing
 pub mod Answers
-pub mod Written
+pub mod Laws
 pub mod Reading

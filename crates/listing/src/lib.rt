@@ -1,30 +1,26 @@
 // A code's sheet read, and its listing printed.
 //
 // The calls of this file take any text: what is no sheet, or the sheet of a code that is refused, is refused by its number.
-pub mod columns;
-pub mod lines;
-pub mod sheet;
+mod lines;
+mod sheet;
 
-use columns::COLUMNS;
-use columns::GREATEST;
 use field::Elem;
+use fields::FIELD;
+use fields::GREATEST;
 use slices::LONGEST;
 ghost use mathlib.Core.Path.{_≡_};
 ghost use mathlib.Core.List.{[], _∷_};
-ghost use Prim.Native.Nat.{_≤_};
-ghost use lib.ListN.{length, take};
-ghost use Rattle.listing.specs.Columns.{greatest, lineText};
-ghost use Rattle.listing.specs.Sheet.{sheetN, sheetH};
-ghost use Rattle.listing.specs.Answers.{sheetFault, sheetListing, storedAnswer, storedAfter};
+ghost use Rattle.fields.specs.Fields.{lineText};
+ghost use Rattle.listing.specs.Answers.{SheetRead, sheetListing, storedAnswer, storedAfter};
 ghost use Rattle.listing.specs.Answers.{listingAnswer, listingAfter, printedAnswer, printedAfter};
 
 // The length of the longest sheet.
-pub const LONGEST_SHEET: usize = sheet::SECOND + GREATEST as usize * COLUMNS + 1;
+pub const LONGEST_SHEET: usize = sheet::SECOND + GREATEST as usize * FIELD + 1;
 
 // The lengths of a listing's first line and of its others.
-const CODE_LINE: usize = 6 * COLUMNS + 1;
+const CODE_LINE: usize = 6 * FIELD + 1;
 
-const COLUMN_LINE: usize = 4 * COLUMNS + 1;
+const COLUMN_LINE: usize = 4 * FIELD + 1;
 
 // The length of the longest listing.
 pub const LONGEST_LISTING: usize = CODE_LINE + LONGEST * COLUMN_LINE;
@@ -41,11 +37,12 @@ pub fn listing(text: &[u8], out: &mut [u8]) -> Listed
     ensures { λ _. ⌜ now (out .exit) ≡ listingAfter (now (text .entry)) (now (out .entry)) ⌝ }
 {
     let mut h: [Elem; GREATEST as usize] = [0; GREATEST as usize];
-    let number = sheet::sheet_fault(text, &mut h);
+    let mut inverses: [Elem; LONGEST] = [0; LONGEST];
+    let number = sheet::sheet_fault(text, &mut h, &mut inverses);
     if number != 0 {
         return Listed::Refused(number);
     }
-    sheet_listing(text, &h, out)
+    sheet_listing(text, &h, &inverses, out)
 }
 
 // The same, with the line of its number in place of the listing where the text is refused: only a short buffer is refused.
@@ -54,16 +51,17 @@ pub fn printed(text: &[u8], out: &mut [u8]) -> Listed
     ensures { λ _. ⌜ now (out .exit) ≡ printedAfter (now (text .entry)) (now (out .entry)) ⌝ }
 {
     let mut h: [Elem; GREATEST as usize] = [0; GREATEST as usize];
-    let number = sheet::sheet_fault(text, &mut h);
+    let mut inverses: [Elem; LONGEST] = [0; LONGEST];
+    let number = sheet::sheet_fault(text, &mut h, &mut inverses);
     if number != 0 {
         return number_line(number, out);
     }
-    sheet_listing(text, &h, out)
+    sheet_listing(text, &h, &inverses, out)
 }
 
-// The listing of the code on a sheet at the front of `out`, where the first n of `h` are the entries of the signature.
-fn sheet_listing(text: &[u8], h: &[Elem], out: &mut [u8]) -> Listed
-    requires { ⌜ (sheetFault (now text) ≡ 0) × (greatest ≤ length (now h)) × (take (sheetN (now text)) (now h) ≡ sheetH (now text)) ⌝ }
+// The listing of the code on a sheet at the front of `out`, where the signature and its inverses were read.
+fn sheet_listing(text: &[u8], h: &[Elem], inverses: &[Elem], out: &mut [u8]) -> Listed
+    requires { ⌜ SheetRead (now text) (now h) (now inverses) ⌝ }
     ensures { λ r. ⌜ r ≡ storedAnswer (sheetListing (now (text .entry))) (now (out .entry)) ⌝ }
     ensures { λ _. ⌜ now (out .exit) ≡ storedAfter (sheetListing (now (text .entry))) (now (out .entry)) ⌝ }
 {
@@ -71,9 +69,9 @@ fn sheet_listing(text: &[u8], h: &[Elem], out: &mut [u8]) -> Listed
     let n = c.n as usize;
     let length = CODE_LINE + n * COLUMN_LINE;
     if out.len() < length {
-        return Listed::Refused(2);
+        return Listed::Refused(refusals::LENGTH);
     }
-    lines::write_listing(c, &h[..n], out);
+    lines::write_listing(c, &h[..n], inverses, out);
     Listed::Length(length as u32)
 }
 
@@ -82,9 +80,9 @@ fn number_line(number: u32, out: &mut [u8]) -> Listed
     ensures { λ r. ⌜ r ≡ storedAnswer (lineText (number ∷ [])) (now (out .entry)) ⌝ }
     ensures { λ _. ⌜ now (out .exit) ≡ storedAfter (lineText (number ∷ [])) (now (out .entry)) ⌝ }
 {
-    if out.len() < COLUMNS + 1 {
-        return Listed::Refused(2);
+    if out.len() < FIELD + 1 {
+        return Listed::Refused(refusals::LENGTH);
     }
     let line = [number];
-    Listed::Length(columns::put_line(&line, 0, out) as u32)
+    Listed::Length(fields::put_line(&line, 0, out) as u32)
 }

@@ -1,20 +1,23 @@
 // The lines of the listing of an accepted code.
-use crate::columns;
-use crate::sheet::Parameters;
+use basis::Column;
 use field::Elem;
+use params::Parameters;
 use slices::LONGEST;
-use words::Counted;
+use words::internal::number_columns;
 ghost use mathlib.Core.Path.{_≡_};
-ghost use Prim.Native.Nat.{_+_, _*_, _≤_, _<_};
+ghost use Prim.Native.Nat.{_+_, _*_, _^_, _≤_, _<_};
 ghost use lib.ListN.{length};
+ghost use Rattle.algebra.specs.Tabulate.{tabulate};
+ghost use Rattle.field.specs.Words.{widest};
 ghost use Rattle.slices.specs.Lengths.{longest};
 ghost use Rattle.params.specs.Code.{Accepted};
-ghost use Rattle.words.specs.Word.{whole};
+ghost use Rattle.signature.specs.Inverses.{Inverted};
+ghost use Rattle.signature.specs.Tests.{added};
 ghost use Rattle.words.specs.Columns.{rolesOf};
-ghost use Rattle.words.specs.Answers.{messageLength};
-ghost use Rattle.listing.specs.Columns.{joined, lineLength};
+ghost use Rattle.words.specs.Answers.{columns, messageLength};
+ghost use Rattle.fields.specs.Fields.{joined, lineLength};
+ghost use Rattle.fields.specs.Written.{written, over};
 ghost use Rattle.listing.specs.Listing.{PerColumn, columnLine, linesText, listingText, listingLength};
-ghost use Rattle.listing.specs.Written.{written, over};
 
 // The line of column j from place `at` on, and the place after it.
 fn put_column(
@@ -32,7 +35,7 @@ fn put_column(
         ⌜ now (out .exit) ≡ written (now (out .entry)) at (columnLine (now (h .entry)) (now (support .entry)) (now (roles .entry)) j) ⌝ }
 {
     let line = [j as u32, h[j] as u32, support[j] as u32, roles[j] as u32];
-    columns::put_line(&line, at, out)
+    fields::put_line(&line, at, out)
 }
 
 // The lines of all columns from place `at` on.
@@ -53,59 +56,61 @@ fn put_columns(h: &[Elem], support: &[Elem], roles: &[u8], at: usize, out: &mut 
 fn put_lines(c: Parameters, k: u32, h: &[Elem], support: &[Elem], roles: &[u8], out: &mut [u8])
     requires { ⌜ PerColumn (c .n) (now h) (now support) (now roles) × (k ≤ c .n) × (listingLength (c .n) ≤ length (now out)) ⌝ }
     ensures { λ _.
-        ⌜ now (out .exit)
-        ≡ over (linesText (c .m) (c .n) (c .t) (c .omega) k (now (h .entry)) (now (support .entry)) (now (roles .entry))) (now (out .entry)) ⌝ }
+        ⌜ now (out .exit) ≡ over (linesText c k (now (h .entry)) (now (support .entry)) (now (roles .entry))) (now (out .entry)) ⌝ }
 {
     let line = [c.m, c.n, c.t, c.omega, c.n - k, k];
-    let next = columns::put_line(&line, 0, out);
+    let next = fields::put_line(&line, 0, out);
     put_columns(h, support, roles, next, out);
 }
 
-// The roles of an accepted code's columns, and k.
-fn roles_of(c: Parameters, h: &[Elem], roles: &mut [u8]) -> u32
-    requires { ⌜ Accepted (c .m) (c .n) (c .t) (c .omega) (now h) × (length (now roles) ≡ c .n) ⌝ }
-    ensures { λ r. ⌜ r ≡ messageLength (c .m) (c .n) (c .t) (c .omega) (now (h .entry)) ⌝ }
-    ensures { λ _. ⌜ now (roles .exit) ≡ rolesOf (c .m) (c .t) (c .omega) (now (h .entry)) (whole (c .n)) ⌝ }
+// The support that the code's offset and the inverses of its entries give, as many as the buffer holds.
+fn code_support(c: Parameters, inverses: &[Elem], support: &mut [Elem])
+    requires { ⌜ (c .omega < 2 ^ widest) × (0 < length (now inverses)) × (length (now support) ≤ length (now inverses)) ⌝ }
+    ensures { λ _.
+        ⌜ now (support .exit)
+        ≡ tabulate (length (now (support .entry))) (added (now (inverses .entry)) (added (now (inverses .entry)) (c .omega) 0)) ⌝ }
 {
-    match words::roles(c.m, c.n, c.t, c.omega, h, roles) {
-        Counted::Count(k) => k,
-        Counted::Refused(_) => 0,
-    }
+    let omega = c.omega as Elem;
+    signature::store_support(inverses, omega, support);
 }
 
-// The listing of an accepted code at the front of `out`. `roots`, `support` and `roles` have n entries to work with.
+// The roles of an accepted code's columns, and k.
+fn code_roles(c: Parameters, h: &[Elem], roles: &mut [u8]) -> u32
+    requires { ⌜ Accepted c (now h) × (length (now roles) ≡ c .n) ⌝ }
+    ensures { λ r. ⌜ r ≡ messageLength c (now (h .entry)) ⌝ }
+    ensures { λ _. ⌜ now (roles .exit) ≡ rolesOf c (now (h .entry)) (columns c (now (h .entry))) ⌝ }
+{
+    let n = c.n as usize;
+    let mut columns: [Column; LONGEST] = [0; LONGEST];
+    number_columns(n, &mut columns);
+    words::internal::roles(c, h, &columns[..n], roles)
+}
+
+// The listing of an accepted code at the front of `out`. `support` and `roles` have n entries to work with.
 fn compute_lines(
     c: Parameters,
     h: &[Elem],
-    roots: &mut [Elem],
+    inverses: &[Elem],
     support: &mut [Elem],
     roles: &mut [u8],
     out: &mut [u8],
 )
-    requires { ⌜ Accepted (c .m) (c .n) (c .t) (c .omega) (now h) × (listingLength (c .n) ≤ length (now out)) ⌝ }
-    requires { ⌜ (length (now roots) ≡ c .n) × (length (now support) ≡ c .n) × (length (now roles) ≡ c .n) ⌝ }
-    ensures { λ _. ⌜ now (out .exit) ≡ over (listingText (c .m) (c .n) (c .t) (c .omega) (now (h .entry))) (now (out .entry)) ⌝ }
+    requires { ⌜ Accepted c (now h) × Inverted (c .m) (now h) (now inverses) × (listingLength (c .n) ≤ length (now out)) ⌝ }
+    requires { ⌜ (length (now support) ≡ c .n) × (length (now roles) ≡ c .n) ⌝ }
+    ensures { λ _. ⌜ now (out .exit) ≡ over (listingText c (now (h .entry))) (now (out .entry)) ⌝ }
 {
-    params::check(c.m, c.n, c.t, c.omega, h, roots, support);
-    let k = roles_of(c, h, roles);
+    code_support(c, inverses, support);
+    let k = code_roles(c, h, roles);
     put_lines(c, k, h, support, roles, out);
 }
 
-// The listing of an accepted code at the front of `out`.
-pub fn write_listing(c: Parameters, h: &[Elem], out: &mut [u8])
-    requires { ⌜ Accepted (c .m) (c .n) (c .t) (c .omega) (now h) × (listingLength (c .n) ≤ length (now out)) ⌝ }
-    ensures { λ _. ⌜ now (out .exit) ≡ over (listingText (c .m) (c .n) (c .t) (c .omega) (now (h .entry))) (now (out .entry)) ⌝ }
+// The listing of an accepted code, whose entries have these inverses, at the front of `out`.
+pub fn write_listing(c: Parameters, h: &[Elem], inverses: &[Elem], out: &mut [u8])
+    requires { ⌜ Accepted c (now h) × Inverted (c .m) (now h) (now inverses) × (listingLength (c .n) ≤ length (now out)) ⌝ }
+    ensures { λ _. ⌜ now (out .exit) ≡ over (listingText c (now (h .entry))) (now (out .entry)) ⌝ }
 {
-    let mut roots: [Elem; LONGEST] = [0; LONGEST];
     let mut support: [Elem; LONGEST] = [0; LONGEST];
     let mut roles: [u8; LONGEST] = [0; LONGEST];
     let n = c.n as usize;
-    compute_lines(
-        c,
-        h,
-        &mut roots[..n],
-        &mut support[..n],
-        &mut roles[..n],
-        out,
-    );
+    compute_lines(c, h, inverses, &mut support[..n], &mut roles[..n], out);
 }

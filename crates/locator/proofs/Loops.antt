@@ -16,7 +16,7 @@ use Rattle.field.specs.Gf.{Width, gf, gf-laws}
 use Rattle.field.specs.Product.{product}
 use Rattle.field.specs.Words.{word}
 use Rattle.slices.specs.Lengths.{longest}
-use Rattle.params.specs.Tests.{entryOf}
+use Rattle.algebra.specs.Lists.{entryOf}
 use Rattle.locator.specs.Coefficients.{half, horner, evaluate, Half, Combined, Lifted, Constant}
 use Rattle.locator.proofs.Horner.{shifted, horner-cong, horner-nought, horner-constant, horner-combine, horner-raise}
 
@@ -209,7 +209,8 @@ module _ {m n : ℕ} (W : Width m) (r : ℕ) {old : List ℕ} (H : Half m n old)
                 long = long;
                 inside = λ j.
                     subst (λ (x : ℕ). x < 2 ^ m) (sym (entries j))
-                    (gf-laws m W .in-add (shifted 0 (entryOf old) j) (times m r (entryOf old j)) (in-shifted j) (gf-laws m W .in-mul r (entryOf old j)));
+                    (gf-laws m W .in-add (shifted 0 (entryOf old) j) (times m r (entryOf old j)) (in-shifted j)
+                    (gf-laws m W .in-mul r (entryOf old j)));
                 ends = λ j h. entries j ∙ past j h;
               };
           multiple = λ y.

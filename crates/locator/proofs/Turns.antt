@@ -15,7 +15,7 @@ use Rattle.algebra.specs.Locator.Split.{Halves, discrepancy}
 use Rattle.algebra.specs.Locator.Nodal.{Points}
 use Rattle.algebra.specs.Locator.Pass.{Pivot, Pivot.smaller, Pivot.remaining, Raised, Reduced, Step, Step.first-pivot, Step.second-pivot, pass-start, pass-step, pass-swap}
 use Rattle.field.specs.Gf.{Width, gf, gf-laws}
-use Rattle.params.specs.Tests.{entryOf}
+use Rattle.algebra.specs.Lists.{entryOf}
 use Rattle.locator.specs.Coefficients.{halvesOf, Half, Pair, Combined, Lifted, Turned, Choice, Choice.first, Choice.second, Advanced, Constant, Started, Passed, Located}
 use Rattle.locator.proofs.Loops.{constant-value}
 
@@ -180,7 +180,8 @@ passed-none {m} W roots syndrome S =
 
 pub passed-more : {m : ℕ} (W : Width m) {roots syndrome : List ℕ} → Points (gf m) (length roots) (entryOf roots) → {i p p′ : ℕ}
     {e o e2 o2 e′ o′ e2′ o2′ : List ℕ} → Passed m roots syndrome i p e o e2 o2 → i < length roots
-    → Advanced m (entryOf roots i) (entryOf syndrome i) p (2 * i + 1 - p) e o e2 o2 p′ e′ o′ e2′ o2′ → Passed m roots syndrome (i + 1) p′ e′ o′ e2′ o2′
+    → Advanced m (entryOf roots i) (entryOf syndrome i) p (2 * i + 1 - p) e o e2 o2 p′ e′ o′ e2′ o2′
+    → Passed m roots syndrome (i + 1) p′ e′ o′ e2′ o2′
 passed-more {m} W {roots} {syndrome} R {i} {p} {p′} {e} {o} {e2} {o2} {e′} {o′} {e2′} {o2′} G l A =
     record {
       low = omega (arith, G .low, A .low);
@@ -190,7 +191,8 @@ passed-more {m} W {roots} {syndrome} R {i} {p} {p′} {e} {o} {e2} {o2} {e′} {
           pass-step (gf m) (gf-laws m W) R l (G .invariant)
           (subst
           (λ (d : ℕ).
-          Step (gf m) (entryOf roots i) (entryOf syndrome i) (halvesOf (gf m) e o) p (halvesOf (gf m) e2 o2) (2 * i + 1 - p) (halvesOf (gf m) e′ o′) p′
+          Step (gf m) (entryOf roots i) (entryOf syndrome i) (halvesOf (gf m) e o) p (halvesOf (gf m) e2 o2) (2 * i + 1 - p)
+          (halvesOf (gf m) e′ o′) p′
           (halvesOf (gf m) e2′ o2′) d)
           left (A .step));
     }
@@ -198,7 +200,8 @@ passed-more {m} W {roots} {syndrome} R {i} {p} {p′} {e} {o} {e2} {o2} {e′} {
     left : p + (2 * i + 1 - p) + 2 - p′ ≡ 2 * (i + 1) + 1 - p′
     left = omega (arith, G .low)
 
-pub passed-all : {m : ℕ} (roots : List ℕ) {syndrome : List ℕ} {i p : ℕ} {e o e2 o2 : List ℕ} → i ≡ length roots → Passed m roots syndrome i p e o e2 o2
+pub passed-all : {m : ℕ} (roots : List ℕ) {syndrome : List ℕ} {i p : ℕ} {e o e2 o2 : List ℕ} → i ≡ length roots
+    → Passed m roots syndrome i p e o e2 o2
     → Passed m roots syndrome (length roots) p e o e2 o2
 passed-all {m} roots {syndrome} {i} {p} {e} {o} {e2} {o2} h G = subst (λ (k : ℕ). Passed m roots syndrome k p e o e2 o2) h G
 

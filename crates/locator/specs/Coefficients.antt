@@ -9,7 +9,7 @@ use Rattle.algebra.specs.Locator.Split.{Halves}
 use Rattle.algebra.specs.Locator.Pass.{Invariant, Pivot, Raised, Reduced, Step}
 use Rattle.field.specs.Gf.{gf}
 use Rattle.slices.specs.Lengths.{longest}
-use Rattle.params.specs.Tests.{entryOf}
+use Rattle.algebra.specs.Lists.{entryOf}
 
 -- the length of a half: enough for the larger degree, which reaches 2t + 1 where t is half of the longest word
 abbrev pub half : ℕ
@@ -52,7 +52,8 @@ pub record Turned (m r a b p q : ℕ) (pivot-even pivot-odd other-even other-odd
   pub pivot : Pair m (p + 2) pivot-even′ pivot-odd′
   pub other : Pair m q other-even′ other-odd′
   pub raised : Raised (gf m) r (halvesOf (gf m) pivot-even pivot-odd) (halvesOf (gf m) pivot-even′ pivot-odd′)
-  pub reduced : Reduced (gf m) a b (halvesOf (gf m) pivot-even pivot-odd) (halvesOf (gf m) other-even other-odd) (halvesOf (gf m) other-even′ other-odd′)
+  pub reduced : Reduced (gf m) a b (halvesOf (gf m) pivot-even pivot-odd) (halvesOf (gf m) other-even other-odd)
+      (halvesOf (gf m) other-even′ other-odd′)
 
 -- which of two pairs is the pivot: the first one or the second one
 pub data Choice (m a b p q : ℕ) : Bool → Type 0 where
@@ -64,7 +65,8 @@ pub record Advanced (m z s p q : ℕ) (even odd other-even other-odd : List ℕ)
   pub first : Pair m p′ even′ odd′
   pub second : Pair m (p + q + 2 - p′) other-even′ other-odd′
   pub low : p′ ≤ p + q + 2
-  pub step : Step (gf m) z s (halvesOf (gf m) even odd) p (halvesOf (gf m) other-even other-odd) q (halvesOf (gf m) even′ odd′) p′ (halvesOf (gf m) other-even′ other-odd′) (p + q + 2 - p′)
+  pub step : Step (gf m) z s (halvesOf (gf m) even odd) p (halvesOf (gf m) other-even other-odd) q (halvesOf (gf m) even′ odd′) p′
+      (halvesOf (gf m) other-even′ other-odd′) (p + q + 2 - p′)
 
 -- a half that is c everywhere
 pub record Constant (c : ℕ) (l : List ℕ) : Type 0 where
@@ -90,7 +92,8 @@ pub record Passed (m : ℕ) (roots syndrome : List ℕ) (i p : ℕ) (even odd ot
   pub low : p ≤ 2 * i + 1
   pub first : Pair m p even odd
   pub second : Pair m (2 * i + 1 - p) other-even other-odd
-  pub invariant : Invariant (gf m) (entryOf roots) (entryOf syndrome) i (halvesOf (gf m) even odd) p (halvesOf (gf m) other-even other-odd) (2 * i + 1 - p)
+  pub invariant : Invariant (gf m) (entryOf roots) (entryOf syndrome) i (halvesOf (gf m) even odd) p (halvesOf (gf m) other-even other-odd)
+      (2 * i + 1 - p)
 
 -- the pass is over, and of its two pairs `even` and `odd` is the one of smaller degree; so its degree is at most the number of roots
 pub record Located (m : ℕ) (roots syndrome even odd : List ℕ) : Type 0 where

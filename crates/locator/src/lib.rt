@@ -15,7 +15,7 @@ ghost use Rattle.algebra.specs.Locator.Nodal.{Points};
 ghost use Rattle.algebra.specs.Locator.Pass.{Pivot};
 ghost use Rattle.field.specs.Gf.{Width, gf};
 ghost use Rattle.slices.specs.Lengths.{longest};
-ghost use Rattle.params.specs.Tests.{entryOf};
+ghost use Rattle.algebra.specs.Lists.{entryOf};
 ghost use Rattle.locator.specs.Coefficients.{half, evaluate, halvesOf, Half, Pair, Combined, Lifted, Turned, Choice, Advanced, Constant, Started, Syndrome, Passed, Located};
 
 // The number of coefficients of a half: of two pairs in t turns, t at most LONGEST / 2, the larger one's degree can reach 2t + 1.

@@ -9,25 +9,27 @@ use native.Mathlib.Omega.{arith}
 use lib.Dec.{eqb}
 use lib.ListN.{length, getD}
 use borrow.Author.Tests.{eq-eqb, eqb-true}
-use Rattle.algebra.specs.All.{both-true}
+use Rattle.algebra.specs.All.{both-true, both-hold}
 use Rattle.algebra.specs.Field.{Ops}
 use Rattle.algebra.specs.Tabulate.{tabulate, getD-tabulate}
 use Rattle.field.specs.Gf.{gf, gf-laws}
-use Rattle.field.specs.Rules.{unless-refused}
-use Rattle.slices.specs.declared.Outcome.the-variants.{Done, Refused}
-use Rattle.params.specs.Signature.{Cauchy, HasCauchy}
-use Rattle.params.specs.Existence.{rootAt, supportAt, offset-pair, pair-conditions}
-use Rattle.params.specs.Pigeonhole.{cauchy-short}
-use Rattle.params.specs.Tests.{entryOf, both-hold}
+use Rattle.refusals.specs.Rules.{unless-refused}
+use Rattle.refusals.specs.declared.Outcome.the-variants.{Done, Refused}
+use Rattle.params.specs.declared.Parameters.{Parameters}
+use Rattle.signature.specs.Signature.{Cauchy, HasCauchy}
+use Rattle.signature.specs.Existence.{rootAt, supportAt, offset-pair, pair-conditions}
+use Rattle.signature.specs.Pigeonhole.{cauchy-short}
+use Rattle.algebra.specs.Lists.{entryOf}
 use Rattle.params.specs.Code.{Limits, Accepted, accepted, accepts}
 use Rattle.params.specs.Answers.{codeFault, checkFault, checkAnswer, rootsAfter, supportAfter}
 
 -- the roots and the support of an accepted code
-pub accepted-pair : {m n t ω : ℕ} {h : List ℕ} → Accepted m n t ω h
-    → Cauchy (gf m) n (entryOf h) (rootAt (gf m) ω (entryOf h)) (supportAt (gf m) ω (entryOf h))
-accepted-pair {m} {n} {t} {ω} {h} A =
+pub accepted-pair : {c : Parameters} {h : List ℕ} → Accepted c h
+    → Cauchy (gf (c .m)) (c .n) (entryOf h) (rootAt (gf (c .m)) (c .omega) (entryOf h)) (supportAt (gf (c .m)) (c .omega) (entryOf h))
+accepted-pair {c} {h} A =
     let L = A .limits in
-    offset-pair (gf m) (gf-laws m (L .width)) n (L .e) (L .n-power) (entryOf h) (L .h-in) (A .conditions) ω (A .ω-in)
+    let h-in : (i : ℕ) → i < c .n → entryOf h i < 2 ^ c .m = λ i l. L .h-in i (subst (λ (k : ℕ). i < k) (sym (L .h-length)) l) in
+    offset-pair (gf (c .m)) (gf-laws (c .m) (L .width)) (c .n) (L .e) (L .n-power) (entryOf h) h-in (A .conditions) (c .omega) (A .ω-in)
 
 -- a pair may be given by other sequences that agree below n
 cauchy-cong : {A : Type 0} {K : Ops A} {n : ℕ} {h z L z′ L′ : ℕ → A} → ((i : ℕ) → i < n → z′ i ≡ z i) → ((j : ℕ) → j < n → L′ j ≡ L j)
@@ -54,68 +56,99 @@ refused-same zero j old new e =
     let z : _≡_ {A = ℕ} 0 1 = cc in absurd (omega arith)
 refused-same (suc k) j old new e = refl
 
-module _ (m n t ω : ℕ) (h roots support : List ℕ) where
+module _ (c : Parameters) (h roots support : List ℕ) where
   -- both buffers have n entries
   abbrev lent : Bool
-  lent = eqb (length roots) n && eqb (length support) n
+  lent = eqb (length roots) (c .n) && eqb (length support) (c .n)
 
   -- demand 1: "a fault in the input brings back its number … with each buffer unchanged"
-  pub refused-unchanged : (k : ℕ) → checkAnswer m n t ω h roots support ≡ Refused k
-      → (rootsAfter m n t ω h roots support ≡ roots) × (supportAfter m n t ω h roots support ≡ support)
+  pub refused-unchanged : (k : ℕ) → checkAnswer c h roots support ≡ Refused k
+      → (rootsAfter c h roots support ≡ roots) × (supportAfter c h roots support ≡ support)
   unfolding checkAnswer rootsAfter supportAfter
   refused-unchanged k e =
-      let number = checkFault m n t ω h roots support in
+      let number = checkFault c h roots support in
       (refused-same number k roots _ e, refused-same number k support _ e)
 
-  pub done-accepted : checkAnswer m n t ω h roots support ≡ Done → Accepted m n t ω h
+  pub done-accepted : checkAnswer c h roots support ≡ Done → Accepted c h
   unfolding checkAnswer checkFault codeFault
-  done-accepted e = accepted lent m n t ω h (done-zero (checkFault m n t ω h roots support) e) .1
+  done-accepted e = accepted lent c h (done-zero (checkFault c h roots support) e) .1
 
-  done-lengths : checkAnswer m n t ω h roots support ≡ Done → (length roots ≡ n) × (length support ≡ n)
+  done-lengths : checkAnswer c h roots support ≡ Done → (length roots ≡ c .n) × (length support ≡ c .n)
   unfolding checkAnswer checkFault codeFault
   done-lengths e =
-      let b = accepted lent m n t ω h (done-zero (checkFault m n t ω h roots support) e) .0 in
-      let (r, s) = both-true (eqb (length roots) n) (eqb (length support) n) b in
-      (eqb-true (length roots) n r, eqb-true (length support) n s)
+      let b = accepted lent c h (done-zero (checkFault c h roots support) e) .0 in
+      let (r, s) = both-true (eqb (length roots) (c .n)) (eqb (length support) (c .n)) b in
+      (eqb-true (length roots) (c .n) r, eqb-true (length support) (c .n) s)
 
-  pub accepted-done : length roots ≡ n → length support ≡ n → Accepted m n t ω h → checkAnswer m n t ω h roots support ≡ Done
+  pub accepted-done : length roots ≡ c .n → length support ≡ c .n → Accepted c h → checkAnswer c h roots support ≡ Done
   unfolding checkAnswer checkFault codeFault unless-refused
   accepted-done r s A =
       ap (λ (k : ℕ). unless-refused k Refused Done)
-      (accepts lent m n t ω h (both-hold (eq-eqb (length roots) n r) (eq-eqb (length support) n s)) A)
+      (accepts lent c h (both-hold (eq-eqb (length roots) (c .n) r) (eq-eqb (length support) (c .n) s)) A)
 
   -- demand 2: "Within 01's limits a signature is accepted exactly if two disjoint sequences of distinct field elements exist whose Cauchy matrix is
   -- its dyadic matrix"
-  pub done-exactly : Limits m n t h → ω < 2 ^ m → length roots ≡ n → length support ≡ n
-      → (checkAnswer m n t ω h roots support ≡ Done) ↔ HasCauchy (gf m) n (entryOf h)
+  pub done-exactly : Limits c h → c .omega < 2 ^ c .m → length roots ≡ c .n → length support ≡ c .n
+      → (checkAnswer c h roots support ≡ Done) ↔ HasCauchy (gf (c .m)) (c .n) (entryOf h)
   done-exactly L o r s = (
-    λ e. (rootAt (gf m) ω (entryOf h), supportAt (gf m) ω (entryOf h), accepted-pair (done-accepted e)),
+    λ e. (rootAt (gf (c .m)) (c .omega) (entryOf h), supportAt (gf (c .m)) (c .omega) (entryOf h), accepted-pair (done-accepted e)),
     λ p. accepted-done r s
-        (record { limits = L; ω-in = o; conditions = pair-conditions (gf m) (gf-laws m (L .width)) n (entryOf h) (p .0) (p .1) (p .2) }),
+        (record {
+          limits = L;
+          ω-in = o;
+          conditions = pair-conditions (gf (c .m)) (gf-laws (c .m) (L .width)) (c .n) (entryOf h) (p .0) (p .1)
+              (p .2);
+        }),
   )
 
   -- "such a pair then comes back"
-  pub done-pair : checkAnswer m n t ω h roots support ≡ Done
-      → Cauchy (gf m) n (entryOf h) (entryOf (rootsAfter m n t ω h roots support)) (entryOf (supportAfter m n t ω h roots support))
+  pub done-pair : checkAnswer c h roots support ≡ Done
+      → Cauchy (gf (c .m)) (c .n) (entryOf h) (entryOf (rootsAfter c h roots support)) (entryOf (supportAfter c h roots support))
   unfolding checkAnswer rootsAfter supportAfter unless-refused
   done-pair e =
-      let z : checkFault m n t ω h roots support ≡ 0 = done-zero (checkFault m n t ω h roots support) e in
+      let z : checkFault c h roots support ≡ 0 = done-zero (checkFault c h roots support) e in
       cauchy-cong
-      (λ i l. ap (λ (k : ℕ). getD (unless-refused k (λ j. roots) (tabulate n (rootAt (gf m) ω (entryOf h)))) i 0) z
-      ∙ getD-tabulate n (rootAt (gf m) ω (entryOf h)) i 0 l)
-      (λ i l. ap (λ (k : ℕ). getD (unless-refused k (λ j. support) (tabulate n (supportAt (gf m) ω (entryOf h)))) i 0) z
-      ∙ getD-tabulate n (supportAt (gf m) ω (entryOf h)) i 0 l)
+      (λ i l. ap (λ (k : ℕ). getD (unless-refused k (λ j. roots) (tabulate (c .n) (rootAt (gf (c .m)) (c .omega) (entryOf h)))) i 0) z
+      ∙ getD-tabulate (c .n) (rootAt (gf (c .m)) (c .omega) (entryOf h)) i 0 l)
+      (λ i l. ap (λ (k : ℕ). getD (unless-refused k (λ j. support) (tabulate (c .n) (supportAt (gf (c .m)) (c .omega) (entryOf h)))) i 0) z
+      ∙ getD-tabulate (c .n) (supportAt (gf (c .m)) (c .omega) (entryOf h)) i 0 l)
       (accepted-pair (done-accepted e))
 
   -- "n above q/2 is therefore never accepted"
-  pub done-short : checkAnswer m n t ω h roots support ≡ Done → 2 * n ≤ 2 ^ m
+  pub done-short : checkAnswer c h roots support ≡ Done → 2 * c .n ≤ 2 ^ c .m
   done-short e =
-      cauchy-short m n (entryOf h) (rootAt (gf m) ω (entryOf h)) (supportAt (gf m) ω (entryOf h)) (accepted-pair (done-accepted e))
+      cauchy-short (c .m) (c .n) (entryOf h) (rootAt (gf (c .m)) (c .omega) (entryOf h)) (supportAt (gf (c .m)) (c .omega) (entryOf h))
+      (accepted-pair (done-accepted e))
 
--- "for every offset": whatever stands in its place is accepted too
-pub every-offset : (m n t ω ω′ : ℕ) (h roots support : List ℕ) → ω′ < 2 ^ m → checkAnswer m n t ω h roots support ≡ Done
-    → checkAnswer m n t ω′ h roots support ≡ Done
-every-offset m n t ω ω′ h roots support l e =
-    let A = done-accepted m n t ω h roots support e in
-    let (r, s) = done-lengths m n t ω h roots support e in
-    accepted-done m n t ω′ h roots support r s (record { limits = A .limits; ω-in = l; conditions = A .conditions })
+-- ---- "for every offset"
+
+-- the code with another offset
+abbrev pub withOffset : Parameters → ℕ → Parameters
+withOffset c ω = record { m = c .m; n = c .n; t = c .t; omega = ω }
+
+-- whatever stands in its place is accepted too
+pub offset-accepted : {c : Parameters} {h : List ℕ} (ω : ℕ) → ω < 2 ^ c .m → Accepted c h → Accepted (withOffset c ω) h
+offset-accepted {c} {h} ω l A =
+    let L = A .limits in
+    record {
+      limits = record {
+        width = L .width;
+        e = L .e;
+        n-power = L .n-power;
+        n-low = L .n-low;
+        n-high = L .n-high;
+        h-length = L .h-length;
+        h-in = L .h-in;
+        f = L .f;
+        t-power = L .t-power;
+        t-high = L .t-high;
+      };
+      ω-in = l;
+      conditions = A .conditions;
+    }
+
+pub every-offset : (c : Parameters) (ω : ℕ) (h roots support : List ℕ) → ω < 2 ^ c .m → checkAnswer c h roots support ≡ Done
+    → checkAnswer (withOffset c ω) h roots support ≡ Done
+every-offset c ω h roots support l e =
+    let (r, s) = done-lengths c h roots support e in
+    accepted-done (withOffset c ω) h roots support r s (offset-accepted ω l (done-accepted c h roots support e))

@@ -5,10 +5,11 @@ use mathlib.Core.Bool.{Bool, true, false}
 use mathlib.Core.List.{List}
 use Prim.Native.Nat.{ℕ}
 use native.Mathlib.Omega.{arith}
-use Rattle.field.specs.Rules.{unless-refused}
+use Rattle.refusals.specs.Rules.{unless-refused}
+use Rattle.params.specs.declared.Parameters.{Parameters}
 use Rattle.params.specs.declared.Sameness.the-variants.{Same, Refused}
 use Rattle.params.specs.Code.{Accepted, accepts}
-use Rattle.params.specs.Same.{sameCode, sameCode-is}
+use Rattle.params.specs.Same.{sameCode, Agree, sameCode-is}
 use Rattle.params.specs.Answers.{codeFault, lowest, compared, sameFault, sameAnswer}
 
 compared-same : (b : Bool) → (compared b ≡ Same) ↔ (b ≡ true)
@@ -20,15 +21,15 @@ compared-same false = (
   λ e. ap compared e,
 )
 
-module _ {m₁ n₁ t₁ ω₁ : ℕ} {h₁ : List ℕ} {m₂ n₂ t₂ ω₂ : ℕ} {h₂ : List ℕ} (A₁ : Accepted m₁ n₁ t₁ ω₁ h₁) (A₂ : Accepted m₂ n₂ t₂ ω₂ h₂) where
-  accepted-compared : sameAnswer m₁ n₁ t₁ ω₁ h₁ m₂ n₂ t₂ ω₂ h₂ ≡ compared (sameCode m₁ n₁ t₁ h₁ m₂ n₂ t₂ h₂)
+module _ {c₁ c₂ : Parameters} {h₁ h₂ : List ℕ} (A₁ : Accepted c₁ h₁) (A₂ : Accepted c₂ h₂) where
+  accepted-compared : sameAnswer c₁ h₁ c₂ h₂ ≡ compared (sameCode c₁ h₁ c₂ h₂)
   unfolding sameAnswer sameFault codeFault lowest unless-refused
   accepted-compared =
-      ap₂ (λ (j k : ℕ). unless-refused (lowest j k) Refused (compared (sameCode m₁ n₁ t₁ h₁ m₂ n₂ t₂ h₂)))
-      (accepts true m₁ n₁ t₁ ω₁ h₁ refl A₁) (accepts true m₂ n₂ t₂ ω₂ h₂ refl A₂)
+      ap₂ (λ (j k : ℕ). unless-refused (lowest j k) Refused (compared (sameCode c₁ h₁ c₂ h₂)))
+      (accepts true c₁ h₁ refl A₁) (accepts true c₂ h₂ refl A₂)
 
-  pub same-exactly : (sameAnswer m₁ n₁ t₁ ω₁ h₁ m₂ n₂ t₂ ω₂ h₂ ≡ Same) ↔ ((m₁ ≡ m₂) × (n₁ ≡ n₂) × (t₁ ≡ t₂) × (h₁ ≡ h₂))
+  pub same-exactly : (sameAnswer c₁ h₁ c₂ h₂ ≡ Same) ↔ Agree c₁ h₁ c₂ h₂
   same-exactly =
-      let agree = sameCode m₁ n₁ t₁ h₁ m₂ n₂ t₂ h₂ in
-      let is = sameCode-is m₁ n₁ t₁ h₁ m₂ n₂ t₂ h₂ in
+      let agree = sameCode c₁ h₁ c₂ h₂ in
+      let is = sameCode-is c₁ h₁ c₂ h₂ in
       (λ e. is .0 (compared-same agree .0 (sym accepted-compared ∙ e)), λ p. accepted-compared ∙ compared-same agree .1 (is .1 p))

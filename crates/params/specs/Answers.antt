@@ -6,34 +6,35 @@ use lib.Dec.{eqb}
 use lib.ListN.{length}
 use Rattle.algebra.specs.Tabulate.{tabulate}
 use Rattle.field.specs.Gf.{gf}
-use Rattle.field.specs.Rules.{fault, unless-refused}
-use Rattle.slices.specs.declared.Outcome.{Outcome}
-use Rattle.slices.specs.declared.Outcome.the-variants.{Done, Refused}
+use Rattle.refusals.specs.Rules.{fault, unless-refused}
+use Rattle.refusals.specs.declared.Outcome.{Outcome}
+use Rattle.refusals.specs.declared.Outcome.the-variants.{Done, Refused}
+use Rattle.params.specs.declared.Parameters.{Parameters}
 use Rattle.params.specs.declared.Sameness.{Sameness}
 use Rattle.params.specs.declared.Sameness.the-variants.{Same, Different, Refused as NotCompared}
-use Rattle.params.specs.Existence.{rootAt, supportAt}
-use Rattle.params.specs.Tests.{entryOf}
+use Rattle.signature.specs.Existence.{rootAt, supportAt}
+use Rattle.algebra.specs.Lists.{entryOf}
 use Rattle.params.specs.Code.{codeRules}
 use Rattle.params.specs.Same.{sameCode}
 
-unfoldable pub codeFault : Bool → ℕ → ℕ → ℕ → ℕ → List ℕ → ℕ
-codeFault buffers m n t ω h = fault (codeRules buffers m n t ω h)
+unfoldable pub codeFault : Bool → Parameters → List ℕ → ℕ
+codeFault buffers c h = fault (codeRules buffers c h)
 
 -- ---- check: both buffers have to have n entries
 
-module _ (m n t ω : ℕ) (h roots support : List ℕ) where
+module _ (c : Parameters) (h roots support : List ℕ) where
   unfoldable pub checkFault : ℕ
-  checkFault = codeFault (eqb (length roots) n && eqb (length support) n) m n t ω h
+  checkFault = codeFault (eqb (length roots) (c .n) && eqb (length support) (c .n)) c h
 
   unfoldable pub checkAnswer : Outcome
   checkAnswer = unless-refused checkFault Refused Done
 
   -- "The answer gives z_i = 1/h_i + ω and L_j = 1/h_j + 1/h_0 + ω, n of each."
   unfoldable pub rootsAfter : List ℕ
-  rootsAfter = unless-refused checkFault (λ k. roots) (tabulate n (rootAt (gf m) ω (entryOf h)))
+  rootsAfter = unless-refused checkFault (λ k. roots) (tabulate (c .n) (rootAt (gf (c .m)) (c .omega) (entryOf h)))
 
   unfoldable pub supportAfter : List ℕ
-  supportAfter = unless-refused checkFault (λ k. support) (tabulate n (supportAt (gf m) ω (entryOf h)))
+  supportAfter = unless-refused checkFault (λ k. support) (tabulate (c .n) (supportAt (gf (c .m)) (c .omega) (entryOf h)))
 
 -- ---- same
 
@@ -48,9 +49,9 @@ compared true = Same
 compared false = Different
 
 -- "a fault in either brings its number, the lowest of both cards"
-module _ (m₁ n₁ t₁ ω₁ : ℕ) (h₁ : List ℕ) (m₂ n₂ t₂ ω₂ : ℕ) (h₂ : List ℕ) where
+module _ (c₁ : Parameters) (h₁ : List ℕ) (c₂ : Parameters) (h₂ : List ℕ) where
   unfoldable pub sameFault : ℕ
-  sameFault = lowest (codeFault true m₁ n₁ t₁ ω₁ h₁) (codeFault true m₂ n₂ t₂ ω₂ h₂)
+  sameFault = lowest (codeFault true c₁ h₁) (codeFault true c₂ h₂)
 
   unfoldable pub sameAnswer : Sameness
-  sameAnswer = unless-refused sameFault NotCompared (compared (sameCode m₁ n₁ t₁ h₁ m₂ n₂ t₂ h₂))
+  sameAnswer = unless-refused sameFault NotCompared (compared (sameCode c₁ h₁ c₂ h₂))

@@ -10,13 +10,17 @@ use lib.Pow.{pow-pos, pow-mono}
 use native.Mathlib.Decide.{decLt}
 use native.Mathlib.Omega.{arith}
 use borrow.Author.Tests.{leb-true, le-leb, eqb-true, eq-eqb}
-use Rattle.algebra.specs.All.{both-true, all-true}
+use Rattle.algebra.specs.All.{both-true, both-hold}
+use Rattle.algebra.specs.Lists.{entryOf}
+use Rattle.algebra.specs.Xor.{_⊕_, ⊕-lt}
+use Rattle.refusals.specs.Rules.{Rule, _unless_, fault, fault-none, numbered, hold}
 use Rattle.field.specs.Gf.{Width, gf}
-use Rattle.field.specs.Rules.{Rule, _unless_, fault, fault-past, isWidth, isElement, numbered, hold, width, width-is, element, element-is, fault-empty}
+use Rattle.field.specs.Range.{isWidth, isElement, width, width-is, element, element-is}
 use Rattle.slices.specs.Lengths.{longestLog, longest, isPower, power-is, power}
-use Rattle.slices.specs.Elements.{allElements, elements-are}
-use Rattle.params.specs.Signature.{Conditions}
-use Rattle.params.specs.Tests.{entryOf, both-hold, noZero, noZero-is, linear, linear-is, distinct, distinct-is}
+use Rattle.slices.specs.Elements.{Elements, allElements, elements-are}
+use Rattle.params.specs.declared.Parameters.{Parameters}
+use Rattle.signature.specs.Signature.{Conditions}
+use Rattle.signature.specs.Tests.{signatureRules, noZero, noZero-is, linear, linear-is, distinct, distinct-is}
 
 -- 2, 01's "length": "n is a power of two from 2 to 128"
 unfoldable pub isLength : ℕ → Bool
@@ -27,67 +31,78 @@ unfoldable pub isRootCount : ℕ → ℕ → Bool
 isRootCount n t = isPower t && leb t (n / 2)
 
 -- 1 to 3. `buffers` says that the buffers lent to the call have the lengths that the call names
-unfoldable pub shapeRules : Bool → ℕ → ℕ → ℕ → List ℕ → List Rule
-shapeRules buffers m n ω h =
-    (1 unless isWidth m) ∷ (2 unless isLength n) ∷ (2 unless eqb (length h) n) ∷ (2 unless buffers)
-    ∷ (3 unless allElements m h) ∷ (3 unless isElement m ω) ∷ []
-
--- 4 to 6, 01's three conditions
-unfoldable pub signatureRules : ℕ → ℕ → List ℕ → List Rule
-signatureRules m n h = (4 unless noZero n h) ∷ (5 unless linear m n h) ∷ (6 unless distinct n h) ∷ []
+unfoldable pub shapeRules : Bool → Parameters → List ℕ → List Rule
+shapeRules buffers c h =
+    (1 unless isWidth (c .m)) ∷ (2 unless isLength (c .n)) ∷ (2 unless eqb (length h) (c .n)) ∷ (2 unless buffers)
+    ∷ (3 unless allElements (c .m) h) ∷ (3 unless isElement (c .m) (c .omega)) ∷ []
 
 -- the rules of 01 for a code, in 01's order
-unfoldable pub codeRules : Bool → ℕ → ℕ → ℕ → ℕ → List ℕ → List Rule
-codeRules buffers m n t ω h = shapeRules buffers m n ω h ++ (signatureRules m n h ++ (7 unless isRootCount n t) ∷ [])
+unfoldable pub codeRules : Bool → Parameters → List ℕ → List Rule
+codeRules buffers c h = shapeRules buffers c h ++ (signatureRules (c .m) h ++ (7 unless isRootCount (c .n) (c .t)) ∷ [])
 
 -- what holds of m, n, t and h where 1, 2, 3 and 7 do not apply
-pub record Limits (m n t : ℕ) (h : List ℕ) : Type 0 where
-  pub width : Width m
+pub record Limits (c : Parameters) (h : List ℕ) : Type 0 where
+  pub width : Width (c .m)
   pub e : ℕ
-  pub n-power : n ≡ 2 ^ e
-  pub n-low : 2 ≤ n
+  pub n-power : c .n ≡ 2 ^ e
+  pub n-low : 2 ≤ c .n
   pub n-high : e ≤ longestLog
-  pub h-length : length h ≡ n
-  pub h-in : (i : ℕ) → i < n → entryOf h i < 2 ^ m
+  pub h-length : length h ≡ c .n
+  pub h-in : Elements (c .m) h
   pub f : ℕ
-  pub t-power : t ≡ 2 ^ f
-  pub t-high : t ≤ n / 2
+  pub t-power : c .t ≡ 2 ^ f
+  pub t-high : c .t ≤ c .n / 2
 
 -- "A card is accepted if it keeps every rule for cards and its signature is accepted."
-pub record Accepted (m n t ω : ℕ) (h : List ℕ) : Type 0 where
-  pub limits : Limits m n t h
-  pub ω-in : ω < 2 ^ m
-  pub conditions : Conditions (gf m) n (entryOf h)
+pub record Accepted (c : Parameters) (h : List ℕ) : Type 0 where
+  pub limits : Limits c h
+  pub ω-in : c .omega < 2 ^ c .m
+  pub conditions : Conditions (gf (c .m)) (c .n) (entryOf h)
 
 pub power-short : (s e : ℕ) → e ≤ longestLog → s ≡ 2 ^ e → s ≤ longest
 power-short s e l v = subst (λ (x : ℕ). x ≤ longest) (sym v) (pow-mono l)
 
--- in exponents: t is a proper divisor of n
-pub roots-fewer : {m n t : ℕ} {h : List ℕ} (L : Limits m n t h) → L .f < L .e
-roots-fewer {n = n} {t = t} L = decided (decLt (L .f) (L .e))
-  where
-    decided : Dec (L .f < L .e) → L .f < L .e
-    decided (yes l) = l
-    decided (no nl) =
-        let more : 2 ^ L .e ≤ 2 ^ L .f = pow-mono {i = L .e} {j = L .f} (omega arith) in
-        let positive : 0 < 2 ^ L .e = pow-pos (L .e) in
-        absurd (omega (arith, L .n-power, L .t-power, L .t-high))
+module _ {c : Parameters} {h : List ℕ} (L : Limits c h) where
+  pub n-short : c .n ≤ longest
+  n-short = power-short (c .n) (L .e) (L .n-high) (L .n-power)
 
-all-elements : (m : ℕ) (h : List ℕ) → ((i : ℕ) → i < length h → entryOf h i < 2 ^ m) → allElements m h ≡ true
-unfolding allElements
-all-elements m h l = all-true (length h) (λ i. isElement m (entryOf h i)) (λ i k. element m (entryOf h i) (l i k))
+  pub t-short : c .t ≤ c .n
+  t-short = omega (arith, L .t-high)
+
+  -- in exponents: t is a proper divisor of n
+  roots-fewer : L .f < L .e
+  roots-fewer = decided (decLt (L .f) (L .e))
+    where
+      decided : Dec (L .f < L .e) → L .f < L .e
+      decided (yes l) = l
+      decided (no nl) =
+          let more : 2 ^ L .e ≤ 2 ^ L .f = pow-mono {i = L .e} {j = L .f} (omega arith) in
+          let positive : 0 < 2 ^ L .e = pow-pos (L .e) in
+          absurd (omega (arith, L .n-power, L .t-power, L .t-high))
+
+  -- n is a power of two, so that i ⊕ j is a column again
+  pub index-below : (i j : ℕ) → i < c .n → j < c .n → i ⊕ j < c .n
+  index-below i j li lj =
+      subst (λ (k : ℕ). i ⊕ j < k) (sym (L .n-power))
+      (⊕-lt (L .e) i j (subst (λ (k : ℕ). i < k) (L .n-power) li) (subst (λ (k : ℕ). j < k) (L .n-power) lj))
 
 -- calls that ask for more put their rules after these
-pub code-numbered : (buffers : Bool) (m n t ω : ℕ) (h : List ℕ) → T (numbered (codeRules buffers m n t ω h))
+pub code-numbered : (buffers : Bool) (c : Parameters) (h : List ℕ) → T (numbered (codeRules buffers c h))
 unfolding codeRules shapeRules signatureRules
-code-numbered buffers m n t ω h = tt
+code-numbered buffers c h = tt
+
+-- the three conditions, of the first n entries of h, which are all
+conditions-here : (m n : ℕ) (h : List ℕ) → length h ≡ n → noZero h ≡ true → linear m h ≡ true → distinct h ≡ true → Conditions (gf m) n (entryOf h)
+conditions-here m n h long z r d =
+    subst (λ (k : ℕ). Conditions (gf m) k (entryOf h)) long
+    (record { no-zero = noZero-is m h .0 z; linear = linear-is m h .0 r; distinct = distinct-is h .0 d })
 
 -- no number is due exactly if the buffers have their lengths and the code is accepted
-module _ (buffers : Bool) (m n t ω : ℕ) (h : List ℕ) where
-  pub accepted : fault (codeRules buffers m n t ω h) ≡ 0 → (buffers ≡ true) × Accepted m n t ω h
+module _ (buffers : Bool) (c : Parameters) (h : List ℕ) where
+  pub accepted : fault (codeRules buffers c h) ≡ 0 → (buffers ≡ true) × Accepted c h
   unfolding codeRules shapeRules signatureRules isLength isRootCount
   accepted z =
-      let (is-width, r₁) = hold (codeRules buffers m n t ω h) tt z in
+      let (is-width, r₁) = hold (codeRules buffers c h) tt z in
       let (is-length, r₂) = r₁ in
       let (h-long, r₃) = r₂ in
       let (lent, r₄) = r₃ in
@@ -96,53 +111,44 @@ module _ (buffers : Bool) (m n t ω : ℕ) (h : List ℕ) where
       let (no-zero, r₇) = r₆ in
       let (is-linear, r₈) = r₇ in
       let (is-distinct, r₉) = r₈ in
-      let (least, n-power) = both-true (leb 2 n) (isPower n) is-length in
-      let (t-power, half) = both-true (isPower t) (leb t (n / 2)) (r₉ .0) in
-      let (e, e-high, n-is) = power-is n n-power in
-      let (f, f-high, t-is) = power-is t t-power in
-      let long : length h ≡ n = eqb-true (length h) n h-long in (
+      let (least, n-power) = both-true (leb 2 (c .n)) (isPower (c .n)) is-length in
+      let (t-power, half) = both-true (isPower (c .t)) (leb (c .t) (c .n / 2)) (r₉ .0) in
+      let (e, e-high, n-is) = power-is (c .n) n-power in
+      let (f, f-high, t-is) = power-is (c .t) t-power in
+      let long : length h ≡ c .n = eqb-true (length h) (c .n) h-long in (
         lent,
         record {
           limits = record {
-            width = width-is m is-width;
+            width = width-is (c .m) is-width;
             e = e;
             n-power = n-is;
-            n-low = leb-true 2 n least;
+            n-low = leb-true 2 (c .n) least;
             n-high = e-high;
             h-length = long;
-            h-in = λ i l. elements-are m h h-elements i (subst (λ (k : ℕ). i < k) (sym long) l);
+            h-in = elements-are (c .m) h .0 h-elements;
             f = f;
             t-power = t-is;
-            t-high = leb-true t (n / 2) half;
+            t-high = leb-true (c .t) (c .n / 2) half;
           };
-          ω-in = element-is m ω ω-element;
-          conditions = record {
-            no-zero = noZero-is m n h .0 no-zero;
-            linear = linear-is m n h .0 is-linear;
-            distinct = distinct-is n h .0 is-distinct;
-          };
+          ω-in = element-is (c .m) (c .omega) ω-element;
+          conditions = conditions-here (c .m) (c .n) h long no-zero is-linear is-distinct;
         },
       )
 
-  pub accepts : buffers ≡ true → Accepted m n t ω h → fault (codeRules buffers m n t ω h) ≡ 0
+  pub accepts : buffers ≡ true → Accepted c h → fault (codeRules buffers c h) ≡ 0
   unfolding codeRules shapeRules signatureRules isLength isRootCount
   accepts lent A =
       let L = A .limits in
-      let C = A .conditions in
-      let is-width = width m (L .width .low) (L .width .high) in
-      let is-length = both-hold (le-leb 2 n (L .n-low)) (power n (L .e) (L .n-high) (L .n-power)) in
-      let h-long = eq-eqb (length h) n (L .h-length) in
-      let h-elements = all-elements m h (λ i l. L .h-in i (subst (λ (k : ℕ). i < k) (L .h-length) l)) in
-      let ω-element = element m ω (A .ω-in) in
-      let no-zero = noZero-is m n h .1 (C .no-zero) in
-      let is-linear = linear-is m n h .1 (C .linear) in
-      let is-distinct = distinct-is n h .1 (C .distinct) in
-      let t-power = power t (L .f) (omega (arith, roots-fewer L, L .n-high)) (L .t-power) in
-      let is-count = both-hold t-power (le-leb t (n / 2) (L .t-high)) in
-      fault-past 1 _ is-width
-      (fault-past 2 _ is-length
-      (fault-past 2 _ h-long
-      (fault-past 2 _ lent
-      (fault-past 3 _ h-elements
-      (fault-past 3 _ ω-element
-      (fault-past 4 _ no-zero (fault-past 5 _ is-linear (fault-past 6 _ is-distinct (fault-past 7 _ is-count fault-empty)))))))))
+      let C = subst (λ (k : ℕ). Conditions (gf (c .m)) k (entryOf h)) (sym (L .h-length)) (A .conditions) in
+      let is-width = width (c .m) (L .width .low) (L .width .high) in
+      let is-length = both-hold (le-leb 2 (c .n) (L .n-low)) (power (c .n) (L .e) (L .n-high) (L .n-power)) in
+      let h-long = eq-eqb (length h) (c .n) (L .h-length) in
+      let h-elements = elements-are (c .m) h .1 (L .h-in) in
+      let ω-element = element (c .m) (c .omega) (A .ω-in) in
+      let no-zero = noZero-is (c .m) h .1 (C .no-zero) in
+      let is-linear = linear-is (c .m) h .1 (C .linear) in
+      let is-distinct = distinct-is h .1 (C .distinct) in
+      let t-power = power (c .t) (L .f) (omega (arith, roots-fewer L, L .n-high)) (L .t-power) in
+      let is-count = both-hold t-power (le-leb (c .t) (c .n / 2) (L .t-high)) in
+      fault-none (codeRules buffers c h)
+      (is-width, (is-length, (h-long, (lent, (h-elements, (ω-element, (no-zero, (is-linear, (is-distinct, (is-count, tt))))))))))

@@ -1,9 +1,6 @@
-pub mod Signature
-pub mod Existence
-pub mod Pigeonhole
-pub mod Tests
 pub mod Code
 pub mod Same
 pub mod Answers
 pub mod Acceptance
 pub mod Agreement
+pub mod Calls

@@ -1,11 +1,2 @@
 pub mod Answers
 pub mod Decoding
-pub mod Demand
-pub mod Errors
-pub mod Exists
-pub mod Found
-pub mod Places
-pub mod Repair
-pub mod Search
-pub mod Selected
-pub mod Turned

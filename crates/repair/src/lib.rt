@@ -3,8 +3,12 @@
 // The call of this file takes any input, for the whole code. What it is made of works for any selection of columns and stands in `decoder`.
 pub mod decoder;
 
+use basis::Column;
 use field::Elem;
+use params::Parameters;
+use params::internal::code_fault_inverses;
 use slices::LONGEST;
+use words::internal::number_columns;
 ghost use mathlib.Core.Path.{_≡_};
 ghost use Rattle.repair.specs.Answers.{repairAnswer, repairAfter};
 
@@ -15,31 +19,18 @@ pub enum Recovery {
 }
 
 // Repairs the word received into the buffer `repaired`, which is written only if it succeeds.
-pub fn repair(
-    m: u32,
-    n: u32,
-    t: u32,
-    omega: u32,
-    h: &[Elem],
-    received: &[u8],
-    repaired: &mut [u8],
-) -> Recovery
-    ensures { λ r. ⌜ r ≡ repairAnswer m n t omega (now (h .entry)) (now (received .entry)) (now (repaired .entry)) ⌝ }
-    ensures { λ _. ⌜ now (repaired .exit) ≡ repairAfter m n t omega (now (h .entry)) (now (received .entry)) (now (repaired .entry)) ⌝ }
+pub fn repair(c: Parameters, h: &[Elem], received: &[u8], repaired: &mut [u8]) -> Recovery
+    ensures { λ r. ⌜ r ≡ repairAnswer c (now (h .entry)) (now (received .entry)) (now (repaired .entry)) ⌝ }
+    ensures { λ _. ⌜ now (repaired .exit) ≡ repairAfter c (now (h .entry)) (now (received .entry)) (now (repaired .entry)) ⌝ }
 {
     let mut inverses: [Elem; LONGEST] = [0; LONGEST];
-    let lent = (received.len() == n as usize) & (repaired.len() == n as usize);
-    let number = params::internal::code_fault_inverses(m, n, t, omega, h, lent, &mut inverses);
+    let n = c.n as usize;
+    let lent = (received.len() == n) & (repaired.len() == n);
+    let number = code_fault_inverses(c, h, lent, &mut inverses);
     if number != 0 {
         return Recovery::Refused(number);
     }
-    decoder::repair_whole(
-        m,
-        t as usize,
-        omega as Elem,
-        h,
-        &inverses,
-        received,
-        repaired,
-    )
+    let mut columns: [Column; LONGEST] = [0; LONGEST];
+    number_columns(n, &mut columns);
+    decoder::repair(c, h, &inverses, &columns[..n], received, repaired)
 }

@@ -4,71 +4,68 @@ use mathlib.Core.List.{List, [], _∷_, _++_}
 use Prim.Native.Nat.{ℕ}
 use lib.Dec.{eqb, leb}
 use lib.ListN.{length}
-use Rattle.field.specs.Rules.{Rule, _unless_, fault, unless-refused}
-use Rattle.slices.specs.declared.Outcome.{Outcome}
-use Rattle.slices.specs.declared.Outcome.the-variants.{Done, Refused}
+use Rattle.refusals.specs.Rules.{Rule, _unless_, fault, unless-refused}
+use Rattle.refusals.specs.declared.Outcome.{Outcome}
+use Rattle.refusals.specs.declared.Outcome.the-variants.{Done, Refused}
+use Rattle.params.specs.declared.Parameters.{Parameters}
 use Rattle.params.specs.Code.{codeRules}
-use Rattle.words.specs.Answers.{messageLength}
-use Rattle.words.specs.Columns.{messageOf, encodingOf}
+use Rattle.words.specs.Columns.{dimension, messageOf, encodingOf}
 use Rattle.words.specs.Word.{whole}
+use Rattle.nearest.specs.Repair.{repairedOf}
 use Rattle.repair.specs.Answers.{wordRules, turnedCount}
-use Rattle.repair.specs.Repair.{repairedOf}
+use Rattle.gears.specs.Rows.{isRow, rowBits, rowMessage, gearIn, lampIn, isRowMessage, rowOf}
 use Rattle.rows.specs.declared.Reading.{Reading}
 use Rattle.rows.specs.declared.Reading.the-variants.{Read, Refused as NotRead}
-use Rattle.rows.specs.Rows.{isRow, rowBits, rowMessage, gearIn, lampIn, isRowMessage, rowOf}
 
-module _ (m n t ω : ℕ) (h : List ℕ) where
-  -- ---- writing
+-- ---- for an accepted code and any selection of its columns
 
-  -- 12 and 11, for a code that passes 1 to 7
+module _ (c : Parameters) (h cols : List ℕ) where
+  -- 12 and 11
   unfoldable pub writeRules : ℕ → ℕ → List Rule
-  writeRules gear lamp = (12 unless leb rowBits (messageLength m n t ω h)) ∷ (11 unless isRow gear lamp) ∷ []
+  writeRules gear lamp = (12 unless leb rowBits (dimension c h cols)) ∷ (11 unless isRow gear lamp) ∷ []
 
   unfoldable pub rowWord : ℕ → ℕ → List ℕ
-  rowWord gear lamp = encodingOf m t ω h (whole n) (rowMessage (messageLength m n t ω h) gear lamp)
+  rowWord gear lamp = encodingOf c h cols (rowMessage (dimension c h cols) gear lamp)
 
+  module _ (received : List ℕ) where
+    -- what the repaired word carries
+    unfoldable pub carried : List ℕ
+    carried = messageOf c h cols (repairedOf c h cols received)
+
+    -- 12, then 8 and 10 as repair gives them, then 11: "a row is looked at only if the repair succeeded"
+    unfoldable pub readRules : List Rule
+    readRules = (12 unless leb rowBits (dimension c h cols)) ∷ (wordRules c h cols received ++ (11 unless isRowMessage carried) ∷ [])
+
+    -- the row with "the count of repaired bits"
+    unfoldable pub rowRead : Reading
+    rowRead = Read (rowOf (gearIn carried) (lampIn carried)) (turnedCount c h cols received)
+
+    unfoldable pub readingAnswer : Reading
+    readingAnswer = unless-refused (fault readRules) NotRead rowRead
+
+    unfoldable pub readingAfter : List ℕ → List ℕ
+    readingAfter repaired = unless-refused (fault readRules) (λ k. repaired) (repairedOf c h cols received)
+
+-- ---- the calls: the places of a word are the columns of the whole code
+
+module _ (c : Parameters) (h : List ℕ) where
   module _ (gear lamp : ℕ) (word : List ℕ) where
     unfoldable pub writeFault : ℕ
-    writeFault = fault (codeRules (eqb (length word) n) m n t ω h ++ writeRules gear lamp)
+    writeFault = fault (codeRules (eqb (length word) (c .n)) c h ++ writeRules c h (whole (c .n)) gear lamp)
 
     unfoldable pub writeAnswer : Outcome
     writeAnswer = unless-refused writeFault Refused Done
 
     unfoldable pub writeAfter : List ℕ
-    writeAfter = unless-refused writeFault (λ k. word) (rowWord gear lamp)
+    writeAfter = unless-refused writeFault (λ k. word) (rowWord c h (whole (c .n)) gear lamp)
 
-  -- ---- reading
+  module _ (received repaired : List ℕ) where
+    unfoldable pub readFault : ℕ
+    readFault =
+        fault (codeRules (eqb (length received) (c .n) && eqb (length repaired) (c .n)) c h ++ readRules c h (whole (c .n)) received)
 
-  module _ (received : List ℕ) where
-    -- what the repaired word carries
-    unfoldable pub carried : List ℕ
-    carried = messageOf m t ω h (whole n) (repairedOf m t ω h (whole n) received)
+    unfoldable pub readAnswer : Reading
+    readAnswer = unless-refused readFault NotRead (rowRead c h (whole (c .n)) received)
 
-    -- 12, then 8 and 10 as repair gives them, then 11: "a row is looked at only if the repair succeeded"
-    unfoldable pub readRules : List Rule
-    readRules =
-        (12 unless leb rowBits (messageLength m n t ω h)) ∷ (wordRules m t ω h (whole n) received ++ (11 unless isRowMessage carried) ∷ [])
-
-    -- the row with "the count of repaired bits"
-    unfoldable pub rowRead : Reading
-    rowRead = Read (rowOf (gearIn carried) (lampIn carried)) (turnedCount m t ω h (whole n) received)
-
-    -- ---- the same for a code that passes 1 to 7
-
-    unfoldable pub acceptedAnswer : Reading
-    acceptedAnswer = unless-refused (fault readRules) NotRead rowRead
-
-    unfoldable pub acceptedAfter : List ℕ → List ℕ
-    acceptedAfter repaired = unless-refused (fault readRules) (λ k. repaired) (repairedOf m t ω h (whole n) received)
-
-    -- ---- the call
-
-    module _ (repaired : List ℕ) where
-      unfoldable pub readFault : ℕ
-      readFault = fault (codeRules (eqb (length received) n && eqb (length repaired) n) m n t ω h ++ readRules)
-
-      unfoldable pub readAnswer : Reading
-      readAnswer = unless-refused readFault NotRead rowRead
-
-      unfoldable pub readAfter : List ℕ
-      readAfter = unless-refused readFault (λ k. repaired) (repairedOf m t ω h (whole n) received)
+    unfoldable pub readAfter : List ℕ
+    readAfter = unless-refused readFault (λ k. repaired) (repairedOf c h (whole (c .n)) received)

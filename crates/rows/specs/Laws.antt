@@ -1,56 +1,48 @@
 -- What is written is read again, also with up to t bits turned; and what is read is an allowed row, the one that the repaired word carries.
-use mathlib.Core.Path.{_≡_, refl, sym, ap, ap₂, _∙_, subst}
+--
+-- Each law is shown for an accepted code and any selection of its columns first, and the calls' from it: the whole code is a selection.
+use mathlib.Core.Path.{_≡_, refl, sym, ap, ap₂, _∙_, subst, subst₂}
 use mathlib.Core.Bool.{Bool, true, false, cond, _&&_}
 use mathlib.Core.List.{List, [], _∷_, _++_}
-use Prim.Native.Nat.{ℕ, zero, suc, _+_, _<_, _≤_}
-use native.Mathlib.Decide.{ℕ-discrete}
+use Prim.Native.Nat.{ℕ, zero, suc, _<_, _≤_}
 use native.Mathlib.Omega.{arith}
-use lib.Dec.{T, eqb, leb, ltb, lit<}
+use lib.Dec.{eqb, lit<}
 use lib.ListN.{length}
-use borrow.Author.Tests.{eq-eqb, eqb-true, leb-true, le-leb, lt-ltb}
-use Rattle.algebra.specs.All.{all-true, both-true}
-use Rattle.field.specs.Rules.{Rule, fault-none, fault, fault-first, fault-rest, numbered, hold, unless-refused, accept}
-use Rattle.slices.specs.declared.Outcome.the-variants.{Done, Refused}
+use borrow.Author.Tests.{eq-eqb, eqb-true, leb-true, le-leb}
+use Rattle.algebra.specs.All.{both-true, both-hold}
+use Rattle.algebra.specs.Lists.{entryOf}
+use Rattle.algebra.specs.Places.{chosen, length-chosen}
+use Rattle.refusals.specs.Rules.{fault, fault-none, first-holds, fault-rest, hold, unless-refused, given}
+use Rattle.refusals.specs.declared.Outcome.the-variants.{Done, Refused}
+use Rattle.slices.specs.Bits.{Bits, allBits, IsBits, received-bits, all-bits}
+use Rattle.params.specs.declared.Parameters.{Parameters}
 use Rattle.params.specs.Code.{Accepted, codeRules, code-numbered, accepts, accepted}
-use Rattle.params.specs.Tests.{entryOf, both-hold}
 use Rattle.words.specs.Answers.{messageLength}
-use Rattle.words.specs.Chosen.{length-chosen}
-use Rattle.words.specs.Columns.{chosen, isMessageColumn, dimension, messageOf, encodingOf}
-use Rattle.words.specs.Encoding.{IsBits, encoding-carries, encoding-only}
-use Rattle.words.specs.Word.{whole, isWord}
-use Rattle.words.proofs.Ending.{bits-anywhere}
-use Rattle.words.proofs.Meaning.{length-whole}
+use Rattle.words.specs.Columns.{isMessageColumn, dimension, messageOf, encodingOf}
+use Rattle.words.specs.Encoding.{encoding-carries, encoding-only}
+use Rattle.words.specs.Selected.{Selected, length-whole, whole-selected}
+use Rattle.words.specs.Word.{whole}
+use Rattle.nearest.specs.Demand.{CodeWord, near-unique, repaired-code-word, repaired-within}
+use Rattle.nearest.specs.Repair.{distance, isRepairable, repairedOf}
+use Rattle.nearest.specs.Search.{distance-self, near as near-word, repairable as near-repairable}
 use Rattle.repair.specs.Answers.{wordRules, turnedCount}
-use Rattle.repair.specs.Demand.{CodeWord, near-unique, repaired-code-word, repaired-within}
-use Rattle.repair.specs.Repair.{distance, isRepairable, repairedOf}
-use Rattle.repair.specs.Search.{distance-self, near as near-word, repairable as near-repairable}
-use Rattle.repair.specs.Selected.{whole-selected}
+use Rattle.gears.specs.declared.Row.{Row}
+use Rattle.gears.specs.Rows.{isRow, rowBits, rowMessage, gearIn, lampIn, furtherZero, isRowMessage, lampNumber, rowOf}
+use Rattle.gears.specs.Messages.{row-lamp, lamp-number, length-message, message-bits, message-gear, message-lamp, message-is-row, message-only}
+use Rattle.rows.specs.declared.Reading.{Reading}
 use Rattle.rows.specs.declared.Reading.the-variants.{Read, Refused as NotRead}
-use Rattle.rows.specs.declared.Row.{Row}
-use Rattle.rows.specs.Rows.{isRow, rowBits, rowMessage, gearIn, lampIn, furtherZero, isRowMessage, lampNumber, rowOf}
-use Rattle.rows.specs.Answers.{writeRules, rowWord, writeFault, writeAnswer, writeAfter, carried, readRules, rowRead, readFault, readAnswer, readAfter}
-use Rattle.rows.specs.Messages.{row-lamp, lamp-number, length-message, message-bits, message-gear, message-lamp, message-is-row, message-only}
+use Rattle.rows.specs.Answers.{writeRules, rowWord, carried, readRules, rowRead, readingAnswer, readingAfter}
+use Rattle.rows.specs.Answers.{writeFault, writeAnswer, writeAfter, readFault, readAnswer, readAfter}
 
 -- ---- rules
 
--- a call that no rule refuses has its value
-given : {A : Type 0} {n : ℕ} (refused : ℕ → A) (value : A) → n ≡ 0 → unless-refused n refused value ≡ value
-given refused value z = sym (accept {k = 0} refused value (sym z) refl)
-
--- where no rule of two lists is broken, none of either is
-none-broken : (rules more : List Rule) → T (numbered rules) → fault (rules ++ more) ≡ 0 → (fault rules ≡ 0) × (fault more ≡ 0)
-none-broken rules more s e = decided (ℕ-discrete (fault rules) 0)
-  where
-    decided : Dec (fault rules ≡ 0) → (fault rules ≡ 0) × (fault more ≡ 0)
-    decided (yes z) = (z, sym (fault-rest rules more s z) ∙ e)
-    decided (no ne) = absurd (ne (sym (fault-first rules more ne) ∙ e))
+-- a row was read only where no rule refuses
+read-is : (k : ℕ) {value : Reading} {row : Row} {turned : ℕ} → unless-refused k NotRead value ≡ Read row turned → (k ≡ 0) × (value ≡ Read row turned)
+unfolding unless-refused
+read-is zero e = (refl, e)
+read-is (suc k) e = (cc, cc)
 
 -- ---- words
-
--- a word of n bits
-word-bits : {m n t ω : ℕ} {h r : List ℕ} (A : Accepted m n t ω h) → length r ≡ n → isWord r ≡ true
-    → IsBits m t ω h (whole n) (A .limits .width) r
-word-bits {n = n} {r = r} A long bits = record { long = long ∙ sym (length-whole n); bits = λ j l. bits-anywhere r bits j }
 
 -- bits taken out of a word of bits
 append-bits : (a b : List ℕ) → ((i : ℕ) → entryOf a i < 2) → ((i : ℕ) → entryOf b i < 2) → (i : ℕ) → entryOf (a ++ b) i < 2
@@ -69,208 +61,229 @@ chosen-bits (suc n) p w b =
     last true l (suc i) = lit< tt
     last false l i = lit< tt
 
--- ---- an allowed row, under an accepted code that is wide enough
+-- ---- an allowed row, for an accepted code and a selection that is wide enough
 
-module _ {m n t ω : ℕ} {h : List ℕ} (A : Accepted m n t ω h) (wide : rowBits ≤ messageLength m n t ω h)
-    (gear lamp : ℕ) (allowed : isRow gear lamp ≡ true) where
+module _ {c : Parameters} {h cols : List ℕ} (A : Accepted c h) (S : Selected (c .n) cols) (wide : rowBits ≤ dimension c h cols) (gear lamp : ℕ)
+    (allowed : isRow gear lamp ≡ true) where
   abbrev k : ℕ
-  k = messageLength m n t ω h
+  k = dimension c h cols
 
   abbrev W : List ℕ
-  W = rowWord m n t ω h gear lamp
+  W = rowWord c h cols gear lamp
 
-  -- ---- writing
+  write-passes : fault (writeRules c h cols gear lamp) ≡ 0
+  unfolding writeRules
+  write-passes = fault-none (writeRules c h cols gear lamp) (le-leb rowBits k wide, (allowed, tt))
 
-  row-word : CodeWord A (whole-selected n) W × (messageOf m t ω h (whole n) W ≡ rowMessage k gear lamp)
+  row-word : CodeWord c h cols W × (messageOf c h cols W ≡ rowMessage k gear lamp)
   unfolding rowWord
   row-word =
-      let (b, c, q) =
-      encoding-carries m t ω h (whole n) (A .limits .width) (rowMessage k gear lamp) (length-message k gear lamp) (message-bits k gear lamp) in
-      (record { bits = b; code = c }, q)
+      let (b, code, q) =
+      encoding-carries c h cols (A .limits .width) (rowMessage k gear lamp) (length-message k gear lamp) (message-bits k gear lamp) in
+      (record { bits = b; code = code }, q)
 
-  module _ (word : List ℕ) (lent : length word ≡ n) where
-    write-fault : writeFault m n t ω h gear lamp word ≡ 0
-    unfolding writeFault writeRules
-    write-fault =
-        fault-rest (codeRules (eqb (length word) n) m n t ω h) (writeRules m n t ω h gear lamp) (code-numbered (eqb (length word) n) m n t ω h)
-        (accepts (eqb (length word) n) m n t ω h (eq-eqb (length word) n lent) A)
-        ∙ fault-none (writeRules m n t ω h gear lamp) (le-leb rowBits k wide, (allowed, tt))
+  -- reading a word near it
+  module _ {r : List ℕ} (received : IsBits (length cols) r) (near : distance (length cols) r W ≤ c .t) where
+    repairable : isRepairable c h cols r ≡ true
+    repairable = near-repairable c h cols r (row-word .0 .bits) (near-word c h cols r W (row-word .0 .code) near)
 
-    -- every allowed row is written
-    pub row-written : writeAnswer m n t ω h gear lamp word ≡ Done
-    unfolding writeAnswer
-    row-written = given Refused Done write-fault
-
-    written-is : writeAfter m n t ω h gear lamp word ≡ W
-    unfolding writeAfter
-    written-is = given (λ k. word) W write-fault
-
-  -- ---- reading a word near it
-
-  module _ (r : List ℕ) (long : length r ≡ n) (bits : isWord r ≡ true) (near : distance n r W ≤ t) where
-    received-bits : IsBits m t ω h (whole n) (A .limits .width) r
-    received-bits = word-bits A long bits
-
-    near′ : distance (length (whole n)) r W ≤ t
-    near′ = subst (λ (i : ℕ). distance i r W ≤ t) (sym (length-whole n)) near
-
-    repairable : isRepairable m t ω h (whole n) r ≡ true
-    repairable =
-        near-repairable m t ω h (whole n) (A .limits .width) r W (row-word .0 .bits)
-        (near-word m t ω h (whole n) (A .limits .width) r W (row-word .0 .code) near′)
-
-    repaired-is : repairedOf m t ω h (whole n) r ≡ W
+    repaired-is : repairedOf c h cols r ≡ W
     repaired-is =
-        near-unique A (whole-selected n) received-bits (repaired-code-word A (whole-selected n) received-bits repairable) (row-word .0)
-        (repaired-within A (whole-selected n) received-bits repairable) near′
+        near-unique A S received (repaired-code-word A S received repairable) (row-word .0) (repaired-within A S received repairable) near
 
-    carried-is : carried m n t ω h r ≡ rowMessage k gear lamp
+    carried-is : carried c h cols r ≡ rowMessage k gear lamp
     unfolding carried
-    carried-is = ap (messageOf m t ω h (whole n)) repaired-is ∙ row-word .1
+    carried-is = ap (messageOf c h cols) repaired-is ∙ row-word .1
 
-    row-is-read : rowRead m n t ω h r ≡ Read (rowOf gear lamp) (distance n r W)
-    unfolding rowRead turnedCount
-    row-is-read =
-        ap₂ Read
-        (ap₂ rowOf (ap gearIn carried-is ∙ message-gear k gear lamp wide allowed) (ap lampIn carried-is ∙ message-lamp k gear lamp wide allowed))
-        (ap₂ (λ (i : ℕ) (w : List ℕ). distance i r w) (length-whole n) repaired-is)
-
-    module _ (repaired : List ℕ) (lent : length repaired ≡ n) where
-      read-fault : readFault m n t ω h r repaired ≡ 0
-      unfolding readFault readRules wordRules
-      read-fault =
-          let B = (eqb (length r) n && eqb (length repaired) n) in
-          fault-rest (codeRules B m n t ω h) (readRules m n t ω h r) (code-numbered B m n t ω h)
-          (accepts B m n t ω h (both-hold (eq-eqb (length r) n long) (eq-eqb (length repaired) n lent)) A)
-          ∙ fault-none (readRules m n t ω h r)
-          (le-leb rowBits k wide, (bits, (repairable, (ap isRowMessage carried-is ∙ message-is-row k gear lamp wide allowed, tt))))
-
-      near-read : readAnswer m n t ω h r repaired ≡ Read (rowOf gear lamp) (distance n r W)
-      unfolding readAnswer
-      near-read = given NotRead (rowRead m n t ω h r) read-fault ∙ row-is-read
-
-      near-after : readAfter m n t ω h r repaired ≡ W
-      unfolding readAfter
-      near-after = given (λ k. repaired) (repairedOf m t ω h (whole n) r) read-fault ∙ repaired-is
-
-  -- ---- the laws
-
-  module _ (word : List ℕ) (lent : length word ≡ n) where
-    abbrev written : List ℕ
-    written = writeAfter m n t ω h gear lamp word
-
-    module _ (received repaired : List ℕ) (long : length received ≡ n) (bits : isWord received ≡ true) (lent′ : length repaired ≡ n)
-        (near : distance n received written ≤ t) where
-      -- a row with at most t bits turned is read as that row, with the number of them
-      pub turned-read : readAnswer m n t ω h received repaired ≡ Read (rowOf gear lamp) (distance n received written)
-      turned-read =
-          near-read received long bits (subst (λ (w : List ℕ). distance n received w ≤ t) (written-is word lent) near) repaired lent′
-          ∙ ap (λ (w : List ℕ). Read (rowOf gear lamp) (distance n received w)) (sym (written-is word lent))
-
-      -- and the second buffer then holds what was written
-      pub turned-repaired : readAfter m n t ω h received repaired ≡ written
-      turned-repaired =
-          near-after received long bits (subst (λ (w : List ℕ). distance n received w ≤ t) (written-is word lent) near) repaired lent′
-          ∙ sym (written-is word lent)
-
-    written-word : (length written ≡ n) × (isWord written ≡ true)
-    unfolding isWord
-    written-word =
-        let b = subst (IsBits m t ω h (whole n) (A .limits .width)) (sym (written-is word lent)) (row-word .0 .bits) in (
-          b .long ∙ length-whole n,
-          all-true (length written) (λ j. ltb (entryOf written j) 2)
-              (λ j l. lt-ltb (entryOf written j) 2 (b .bits j (subst (λ (i : ℕ). j < i) (b .long) l))),
+    read-passes : fault (readRules c h cols r) ≡ 0
+    unfolding readRules wordRules
+    read-passes =
+        fault-none (readRules c h cols r) (
+          le-leb rowBits k wide,
+          (all-bits received, (repairable, (ap isRowMessage carried-is ∙ message-is-row k gear lamp wide allowed, tt))),
         )
 
-    -- a written row is read as it was written
-    pub written-read : (repaired : List ℕ) → length repaired ≡ n → readAnswer m n t ω h written repaired ≡ Read (rowOf gear lamp) 0
-    written-read repaired lent′ =
-        turned-read written repaired (written-word .0) (written-word .1) lent′
-        (subst (λ (d : ℕ). d ≤ t) (sym (distance-self n written)) (omega arith))
-        ∙ ap (Read (rowOf gear lamp)) (distance-self n written)
+    -- it is read as that row, with the number of places in which they differ
+    pub near-read : readingAnswer c h cols r ≡ Read (rowOf gear lamp) (distance (length cols) r W)
+    unfolding readingAnswer rowRead turnedCount
+    near-read =
+        given NotRead (rowRead c h cols r) read-passes
+        ∙ ap₂ Read
+        (ap₂ rowOf (ap gearIn carried-is ∙ message-gear k gear lamp wide allowed) (ap lampIn carried-is ∙ message-lamp k gear lamp wide allowed))
+        (ap (distance (length cols) r) repaired-is)
+
+    -- and repaired to that word
+    pub near-after : (repaired : List ℕ) → readingAfter c h cols r repaired ≡ W
+    unfolding readingAfter
+    near-after repaired = given (λ i. repaired) (repairedOf c h cols r) read-passes ∙ repaired-is
+
+-- ---- what is read, of a selection
+
+module _ (c : Parameters) (h cols received : List ℕ) {row : Row} {turned : ℕ} (e : readingAnswer c h cols received ≡ Read row turned) where
+  abbrev said : List ℕ
+  said = carried c h cols received
+
+  -- the rules that reading has passed
+  passed : (rowBits ≤ dimension c h cols) × (allBits received ≡ true) × (isRepairable c h cols received ≡ true) × (isRowMessage said ≡ true)
+  unfolding readingAnswer readRules wordRules
+  passed =
+      let H = hold (readRules c h cols received) tt (read-is (fault (readRules c h cols received)) e .0) in
+      (leb-true rowBits (dimension c h cols) (H .0), H .1 .0, H .1 .1 .0, H .1 .1 .1 .0)
+
+  -- the row and the count that it gave
+  said-is : (row ≡ rowOf (gearIn said) (lampIn said)) × (turned ≡ turnedCount c h cols received)
+  unfolding readingAnswer rowRead
+  said-is =
+      let q = read-is (fault (readRules c h cols received)) e .1 in (cc, cc)
+
+  said-row : isRow (gearIn said) (lampIn said) ≡ true
+  unfolding isRowMessage
+  said-row = both-true (isRow (gearIn said) (lampIn said)) (furtherZero said) (passed .3) .0
+
+  gear-is : row .gear ≡ gearIn said
+  unfolding rowOf
+  gear-is = ap (λ (x : Row). x .gear) (said-is .0)
+
+  lamp-is : lampNumber (row .lamp) ≡ lampIn said
+  unfolding rowOf
+  lamp-is = ap (λ (x : Row). lampNumber (x .lamp)) (said-is .0) ∙ lamp-number (lampIn said) (row-lamp (gearIn said) (lampIn said) said-row)
+
+  -- it is an allowed row
+  pub reading-allowed : isRow (row .gear) (lampNumber (row .lamp)) ≡ true
+  reading-allowed = ap₂ isRow gear-is lamp-is ∙ said-row
+
+  module _ (A : Accepted c h) (S : Selected (c .n) cols) (long : length received ≡ length cols) where
+    bits : IsBits (length cols) received
+    bits = received-bits long (passed .1)
+
+    -- at most t bits were repaired
+    pub reading-within : turned ≤ c .t
+    unfolding turnedCount
+    reading-within = subst (λ (d : ℕ). d ≤ c .t) (sym (said-is .1)) (repaired-within A S bits (passed .2))
+
+    -- to the word that carries that row
+    pub reading-repaired : (repaired : List ℕ) → readingAfter c h cols received repaired ≡ rowWord c h cols (row .gear) (lampNumber (row .lamp))
+    unfolding readingAnswer readingAfter carried rowWord messageOf dimension
+    reading-repaired repaired =
+        let R = repairedOf c h cols received in
+        let w = repaired-code-word A S bits (passed .2) in
+        let s-long = length-chosen (length cols) (isMessageColumn c h cols) (entryOf R) in
+        let s-bits : Bits said = λ i l. chosen-bits (length cols) (isMessageColumn c h cols) (entryOf R) (w .bits .bits) i in
+        given (λ i. repaired) R (read-is (fault (readRules c h cols received)) e .0)
+        ∙ encoding-only c h cols (A .limits .width) said R s-long s-bits (w .bits) (w .code) refl
+        ∙ ap (encodingOf c h cols)
+        (message-only said s-bits (passed .3) ∙ ap (λ (i : ℕ). rowMessage i (gearIn said) (lampIn said)) s-long
+        ∙ ap₂ (rowMessage (dimension c h cols)) (sym gear-is) (sym lamp-is))
+
+-- ---- reading by the call, for an accepted code: it ends as for the selection of all columns
+
+module _ {c : Parameters} {h : List ℕ} (A : Accepted c h) (received repaired : List ℕ) (long : length received ≡ c .n)
+    (lent : length repaired ≡ c .n) where
+  read-rules : readFault c h received repaired ≡ fault (readRules c h (whole (c .n)) received)
+  unfolding readFault
+  read-rules =
+      let B = (eqb (length received) (c .n) && eqb (length repaired) (c .n)) in
+      fault-rest (codeRules B c h) (readRules c h (whole (c .n)) received) (code-numbered B c h)
+      (accepts B c h (both-hold (eq-eqb (length received) (c .n) long) (eq-eqb (length repaired) (c .n) lent)) A)
+
+  answer-is : readAnswer c h received repaired ≡ readingAnswer c h (whole (c .n)) received
+  unfolding readAnswer readingAnswer
+  answer-is = ap (λ (i : ℕ). unless-refused i NotRead (rowRead c h (whole (c .n)) received)) read-rules
+
+  after-is : readAfter c h received repaired ≡ readingAfter c h (whole (c .n)) received repaired
+  unfolding readAfter readingAfter
+  after-is = ap (λ (i : ℕ). unless-refused i (λ j. repaired) (repairedOf c h (whole (c .n)) received)) read-rules
+
+-- ---- what is written is read
+
+module _ {c : Parameters} {h : List ℕ} (A : Accepted c h) (wide : rowBits ≤ messageLength c h) (gear lamp : ℕ)
+    (allowed : isRow gear lamp ≡ true) (word : List ℕ) (lent : length word ≡ c .n) where
+  abbrev S : Selected (c .n) (whole (c .n))
+  S = whole-selected (c .n)
+
+  abbrev written : List ℕ
+  written = writeAfter c h gear lamp word
+
+  write-none : writeFault c h gear lamp word ≡ 0
+  unfolding writeFault
+  write-none =
+      let B = eqb (length word) (c .n) in
+      fault-rest (codeRules B c h) (writeRules c h (whole (c .n)) gear lamp) (code-numbered B c h)
+      (accepts B c h (eq-eqb (length word) (c .n) lent) A)
+      ∙ write-passes A S wide gear lamp allowed
+
+  -- every allowed row is written
+  pub row-written : writeAnswer c h gear lamp word ≡ Done
+  unfolding writeAnswer
+  row-written = given Refused Done write-none
+
+  written-is : written ≡ rowWord c h (whole (c .n)) gear lamp
+  unfolding writeAfter
+  written-is = given (λ i. word) (rowWord c h (whole (c .n)) gear lamp) write-none
+
+  module _ {received : List ℕ} (bits : IsBits (c .n) received) (repaired : List ℕ) (lent′ : length repaired ≡ c .n)
+      (near : distance (c .n) received written ≤ c .t) where
+    bits′ : IsBits (length (whole (c .n))) received
+    bits′ = subst (λ (i : ℕ). IsBits i received) (sym (length-whole (c .n))) bits
+
+    distances : distance (length (whole (c .n))) received (rowWord c h (whole (c .n)) gear lamp) ≡ distance (c .n) received written
+    distances = ap₂ (λ (i : ℕ) (w : List ℕ). distance i received w) (length-whole (c .n)) (sym written-is)
+
+    near′ : distance (length (whole (c .n))) received (rowWord c h (whole (c .n)) gear lamp) ≤ c .t
+    near′ = subst (λ (d : ℕ). d ≤ c .t) (sym distances) near
+
+    -- a row with at most t bits turned is read as that row, with the number of them
+    pub turned-read : readAnswer c h received repaired ≡ Read (rowOf gear lamp) (distance (c .n) received written)
+    turned-read =
+        answer-is A received repaired (bits .long) lent′ ∙ near-read A S wide gear lamp allowed bits′ near′
+        ∙ ap (Read (rowOf gear lamp)) distances
+
+    -- and the second buffer then holds what was written
+    pub turned-repaired : readAfter c h received repaired ≡ written
+    turned-repaired =
+        after-is A received repaired (bits .long) lent′ ∙ near-after A S wide gear lamp allowed bits′ near′ repaired ∙ sym written-is
+
+  written-bits : IsBits (c .n) written
+  written-bits =
+      subst₂ IsBits (length-whole (c .n)) (sym written-is) (row-word A S wide gear lamp allowed .0 .bits)
+
+  -- a written row is read as it was written
+  pub written-read : (repaired : List ℕ) → length repaired ≡ c .n → readAnswer c h written repaired ≡ Read (rowOf gear lamp) 0
+  written-read repaired lent′ =
+      let none = distance-self (c .n) written in
+      turned-read written-bits repaired lent′ (subst (λ (d : ℕ). d ≤ c .t) (sym none) (omega arith)) ∙ ap (Read (rowOf gear lamp)) none
 
 -- ---- what is read
 
-module _ (m n t ω : ℕ) (h received repaired : List ℕ) where
-  abbrev said : List ℕ
-  said = carried m n t ω h received
+module _ (c : Parameters) (h received repaired : List ℕ) {row : Row} {turned : ℕ} (e : readAnswer c h received repaired ≡ Read row turned) where
+  -- the code was accepted, and both buffers have n entries
+  code : Accepted c h × (length received ≡ c .n) × (length repaired ≡ c .n)
+  unfolding readAnswer readFault
+  code =
+      let B = (eqb (length received) (c .n) && eqb (length repaired) (c .n)) in
+      let none = read-is (readFault c h received repaired) e .0 in
+      let (lent, A) = accepted B c h (first-holds (codeRules B c h) (readRules c h (whole (c .n)) received) none) in
+      let (r, s) = both-true (eqb (length received) (c .n)) (eqb (length repaired) (c .n)) lent in
+      (A, eqb-true (length received) (c .n) r, eqb-true (length repaired) (c .n) s)
 
-  read-is : {row : Row} {turned : ℕ} → readAnswer m n t ω h received repaired ≡ Read row turned
-      → (readFault m n t ω h received repaired ≡ 0) × (row ≡ rowOf (gearIn said) (lampIn said)) × (turned ≡ turnedCount m t ω h (whole n) received)
-  unfolding readAnswer rowRead unless-refused
-  read-is {row} {turned} = decided (readFault m n t ω h received repaired)
-    where
-      decided : (f : ℕ) → unless-refused f NotRead (rowRead m n t ω h received) ≡ Read row turned
-          → (f ≡ 0) × (row ≡ rowOf (gearIn said) (lampIn said)) × (turned ≡ turnedCount m t ω h (whole n) received)
-      decided zero e = (refl, cc, cc)
-      decided (suc f) e = (cc, cc, cc)
+  reading : readingAnswer c h (whole (c .n)) received ≡ Read row turned
+  reading = sym (answer-is (code .0) received repaired (code .1) (code .2)) ∙ e
 
-  -- the rules that reading has passed then
-  module _ (none : readFault m n t ω h received repaired ≡ 0) where
-    abbrev lent : Bool
-    lent = eqb (length received) n && eqb (length repaired) n
+  long : length received ≡ length (whole (c .n))
+  long = code .1 ∙ sym (length-whole (c .n))
 
-    neither : (fault (codeRules lent m n t ω h) ≡ 0) × (fault (readRules m n t ω h received) ≡ 0)
-    unfolding readFault
-    neither = none-broken (codeRules lent m n t ω h) (readRules m n t ω h received) (code-numbered lent m n t ω h) none
+  -- what is read is an allowed row
+  pub read-allowed : isRow (row .gear) (lampNumber (row .lamp)) ≡ true
+  read-allowed = reading-allowed c h (whole (c .n)) received reading
 
-    code : (lent ≡ true) × Accepted m n t ω h
-    code = accepted lent m n t ω h (neither .0)
+  -- and at most t bits were repaired, of an accepted code
+  pub read-within : Accepted c h × (turned ≤ c .t)
+  read-within = (code .0, reading-within c h (whole (c .n)) received reading (code .0) (whole-selected (c .n)) long)
 
-    passed : (leb rowBits (messageLength m n t ω h) ≡ true) × (isWord received ≡ true) × (isRepairable m t ω h (whole n) received ≡ true)
-        × (isRowMessage said ≡ true)
-    unfolding readRules wordRules
-    passed =
-        let H = hold (readRules m n t ω h received) tt (neither .1) in (H .0, H .1 .0, H .1 .1 .0, H .1 .1 .1 .0)
-
-    said-row : isRow (gearIn said) (lampIn said) ≡ true
-    unfolding isRowMessage
-    said-row = both-true (isRow (gearIn said) (lampIn said)) (furtherZero said) (passed .3) .0
-
-  module _ (row : Row) (turned : ℕ) (e : readAnswer m n t ω h received repaired ≡ Read row turned) where
-    gear-is : row .gear ≡ gearIn said
-    unfolding rowOf
-    gear-is = ap (λ (x : Row). x .gear) (read-is e .1)
-
-    lamp-is : lampNumber (row .lamp) ≡ lampIn said
-    unfolding rowOf
-    lamp-is =
-        ap (λ (x : Row). lampNumber (x .lamp)) (read-is e .1)
-        ∙ lamp-number (lampIn said) (row-lamp (gearIn said) (lampIn said) (said-row (read-is e .0)))
-
-    -- what is read is an allowed row
-    pub read-allowed : isRow (row .gear) (lampNumber (row .lamp)) ≡ true
-    read-allowed = ap₂ isRow gear-is lamp-is ∙ said-row (read-is e .0)
-
-    -- and at most t bits were repaired, of an accepted code
-    pub read-within : Accepted m n t ω h × (turned ≤ t)
-    unfolding turnedCount
-    read-within =
-        let none = read-is e .0 in
-        let A = code none .1 in
-        let long = eqb-true (length received) n (both-true (eqb (length received) n) (eqb (length repaired) n) (code none .0) .0) in (
-          A,
-          subst (λ (d : ℕ). d ≤ t) (sym (read-is e .2)) (repaired-within A (whole-selected n) (word-bits A long (passed none .1)) (passed none .2)),
-        )
-
-    -- the second buffer then holds the word that is written for that row
-    pub read-repaired : (word : List ℕ) → length word ≡ n
-        → readAfter m n t ω h received repaired ≡ writeAfter m n t ω h (row .gear) (lampNumber (row .lamp)) word
-    unfolding readAfter carried rowWord messageOf dimension
-    read-repaired word lent′ =
-        let none = read-is e .0 in
-        let A = code none .1 in
-        let W = A .limits .width in
-        let long = eqb-true (length received) n (both-true (eqb (length received) n) (eqb (length repaired) n) (code none .0) .0) in
-        let r-bits = word-bits A long (passed none .1) in
-        let R = repairedOf m t ω h (whole n) received in
-        let c = repaired-code-word A (whole-selected n) r-bits (passed none .2) in
-        let s-long = length-chosen (length (whole n)) (isMessageColumn m t ω h (whole n)) (entryOf R) in
-        let s-bits = chosen-bits (length (whole n)) (isMessageColumn m t ω h (whole n)) (entryOf R) (c .bits .bits) in
-        given (λ k. repaired) R none
-        ∙ encoding-only m t ω h (whole n) W said R s-long s-bits (c .bits) (c .code) refl
-        ∙ ap (encodingOf m t ω h (whole n))
-        (message-only said s-bits (passed none .3)
-        ∙ ap (λ (i : ℕ). rowMessage i (gearIn said) (lampIn said)) s-long
-        ∙ ap₂ (rowMessage (messageLength m n t ω h)) (sym gear-is) (sym lamp-is))
-        ∙ sym (written-is A (leb-true rowBits (messageLength m n t ω h) (passed none .0)) (row .gear) (lampNumber (row .lamp)) read-allowed word lent′)
+  -- the second buffer then holds the word that is written for that row
+  pub read-repaired : (word : List ℕ) → length word ≡ c .n
+      → readAfter c h received repaired ≡ writeAfter c h (row .gear) (lampNumber (row .lamp)) word
+  read-repaired word lent =
+      after-is (code .0) received repaired (code .1) (code .2)
+      ∙ reading-repaired c h (whole (c .n)) received reading (code .0) (whole-selected (c .n)) long repaired
+      ∙ sym (written-is (code .0) (passed c h (whole (c .n)) received reading .0) (row .gear) (lampNumber (row .lamp)) read-allowed word lent)

@@ -1,5 +1,3 @@
 pub mod Answers
 pub mod Laws
-pub mod Messages
 pub mod Parts
-pub mod Rows

@@ -1,2 +1,3 @@
 pub mod Lengths
 pub mod Elements
+pub mod Bits

@@ -1,19 +1,15 @@
-// What every call asks of the slices that it is lent, and how it ends.
+// What every call asks of the slices that it is lent.
 use field::Elem;
+use field::internal::is_element;
 ghost use mathlib.Core.Path.{_≡_};
 ghost use lib.ListN.{length};
 ghost use Rattle.field.specs.Gf.{Width};
 ghost use Rattle.slices.specs.Lengths.{isPower};
 ghost use Rattle.slices.specs.Elements.{allElements};
+ghost use Rattle.slices.specs.Bits.{allBits};
 
 // The longest block and the longest word.
 pub const LONGEST: usize = 128;
-
-// The end of a call whose result stands in lent buffers: they are written only where it is Done.
-pub enum Outcome {
-    Done,
-    Refused(u32),
-}
 
 // Whether s is a power of two from 1 to LONGEST.
 pub fn is_power(s: usize) -> bool
@@ -35,7 +31,19 @@ pub fn all_elements(m: u32, a: &[Elem]) -> bool
     ensures { λ r. ⌜ r ≡ allElements m (now (a .entry)) ⌝ }
 {
     for i in 0..a.len() {
-        if a[i] as u32 >> m != 0 {
+        if !is_element(m, a[i] as u32) {
+            return false;
+        }
+    }
+    true
+}
+
+// Whether every entry is 0 or 1.
+pub fn all_bits(a: &[u8]) -> bool
+    ensures { λ r. ⌜ r ≡ allBits (now (a .entry)) ⌝ }
+{
+    for i in 0..a.len() {
+        if 1 < a[i] {
             return false;
         }
     }
@@ -43,6 +51,15 @@ pub fn all_elements(m: u32, a: &[Elem]) -> bool
 }
 
 pub fn copy(from: &[Elem], to: &mut [Elem])
+    requires { ⌜ length (now to) ≡ length (now from) ⌝ }
+    ensures { λ _. ⌜ now (to .exit) ≡ now (from .entry) ⌝ }
+{
+    for i in 0..from.len() {
+        to[i] = from[i];
+    }
+}
+
+pub fn copy_bits(from: &[u8], to: &mut [u8])
     requires { ⌜ length (now to) ≡ length (now from) ⌝ }
     ensures { λ _. ⌜ now (to .exit) ≡ now (from .entry) ⌝ }
 {

@@ -1,6 +1,3 @@
-pub mod Building
-pub mod Eliminating
-pub mod Ending
-pub mod Insertion
 pub mod Meaning
-pub mod Places
+pub mod Summing
+pub mod Called

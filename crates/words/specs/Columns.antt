@@ -1,38 +1,22 @@
 -- Message columns and check columns; the message of a word, and the code word that carries a message.
 use mathlib.Core.Bool.{Bool, _&&_, cond}
-use mathlib.Core.List.{List, [], _∷_, _++_}
-use Prim.Native.Nat.{ℕ, zero, suc, _+_, _^_}
+use mathlib.Core.List.{List}
+use Prim.Native.Nat.{ℕ, _^_}
 use lib.Dec.{eqb}
 use lib.ListN.{length}
 use Rattle.algebra.specs.All.{all, some}
 use Rattle.algebra.specs.Bits.{bitAt}
+use Rattle.algebra.specs.Lists.{entryOf, sameList}
+use Rattle.algebra.specs.Places.{count, chosen, found}
 use Rattle.algebra.specs.Sum.{sum}
 use Rattle.algebra.specs.Tabulate.{tabulate}
 use Rattle.field.specs.Gf.{gf}
-use Rattle.params.specs.Tests.{entryOf}
+use Rattle.params.specs.declared.Parameters.{Parameters}
 use Rattle.words.specs.Word.{parityAt, held, isCodeWord}
-
--- the places below n at which the test holds, counted
-unfoldable pub count : ℕ → (ℕ → Bool) → ℕ
-count zero p = 0
-count (suc n) p = count n p + cond (p n) 1 0
-
--- the entries of w below n at those places, in rising order
-unfoldable pub chosen : ℕ → (ℕ → Bool) → (ℕ → ℕ) → List ℕ
-chosen zero p w = []
-chosen (suc n) p w = chosen n p w ++ cond (p n) (w n ∷ []) []
 
 -- the word of n bits whose bits are those of the number s
 unfoldable pub wordOf : ℕ → ℕ → List ℕ
 wordOf n s = tabulate n (bitAt s)
-
--- a number below n that passes the test (0 where there is none)
-unfoldable pub found : ℕ → (ℕ → Bool) → ℕ
-found zero p = 0
-found (suc n) p = cond (p n) n (found n p)
-
-unfoldable pub sameList : List ℕ → List ℕ → Bool
-sameList a b = eqb (length a) (length b) && all (length a) (λ i. eqb (entryOf a i) (entryOf b i))
 
 -- Of a matrix with t rows: column j is the sum of the columns before it that the bits of s choose.
 -- The m × t bits of a column are those of its t entries, so columns add entry by entry.
@@ -43,10 +27,10 @@ isSumOf m t e j s = all t (λ i. eqb (sum (gf m) j (λ p. held (bitAt s p) (e i 
 unfoldable pub isSum : ℕ → ℕ → (ℕ → ℕ → ℕ) → ℕ → Bool
 isSum m t e j = some (2 ^ j) (isSumOf m t e j)
 
-module _ (m t ω : ℕ) (h cols : List ℕ) where
+module _ (c : Parameters) (h cols : List ℕ) where
   -- "Column j is a message column if it is a sum of columns before it, else a check column."
   unfoldable pub isMessageColumn : ℕ → Bool
-  isMessageColumn = isSum m t (λ i p. parityAt m ω h i (entryOf cols p))
+  isMessageColumn = isSum (c .m) (c .t) (λ i p. parityAt c h i (entryOf cols p))
 
   -- 1 for a message column, 0 for a check column
   unfoldable pub rolesOf : List ℕ
@@ -64,4 +48,4 @@ module _ (m t ω : ℕ) (h cols : List ℕ) where
   unfoldable pub encodingOf : List ℕ → List ℕ
   encodingOf message =
       wordOf (length cols)
-      (found (2 ^ length cols) (λ s. isCodeWord m ω h cols t (wordOf (length cols) s) && sameList (messageOf (wordOf (length cols) s)) message))
+      (found (2 ^ length cols) (λ s. isCodeWord c h cols (wordOf (length cols) s) && sameList (messageOf (wordOf (length cols) s)) message))

@@ -1,11 +1,10 @@
 pub mod Word
 pub mod Columns
+pub mod Selected
 pub mod Parity
 pub mod Systematic
-pub mod Chosen
 pub mod Encoding
 pub mod Offset
 pub mod Zero
-pub mod Packed
-pub mod Table
+pub mod CodeBasis
 pub mod Answers

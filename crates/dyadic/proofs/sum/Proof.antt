@@ -1,34 +1,65 @@
--- `sum` meets its contract: its rules give what the inner sum asks.
-use mathlib.Core.Path.{sym, _∙_}
+-- `sum` meets its contract: the loop fills the buffer with the sums of entries.
+use mathlib.Core.Path.{refl}
+use mathlib.Core.List.{List}
+use Prim.Native.Nat.{ℕ, _-_}
+use lib.ListN.{length, getD}
 use borrow.Author.Needs.{needs}
-use Rattle.dyadic.specs.Answers.{sumAnswer}
-use Rattle.dyadic.proofs.Checked.{pair-checked}
-use Rattle.dyadic.proofs.Ending.{refused, done}
+use Rattle.algebra.specs.Tabulate.{Filling, filling-start, filling-length, filling-index, filling-turn, filling-end}
+use Rattle.algebra.specs.Xor.{_⊕_}
+use Rattle.dyadic.specs.Block.{blockSum}
 use Rattle.dyadic.proofs.sum.Statement.{statement}
 use Rattle.dyadic.proofs.sum.Tie as tie
 
-pair-fault-requires : tie.Need-pair-fault-requires
-pair-fault-requires c κs = search needs
+abbrev sums : List ℕ → List ℕ → ℕ → ℕ
+sums a b j = getD a j 0 ⊕ getD b j 0
 
-returns : tie.Need-returns
-unfolding sumAnswer
-returns c = refused _ _ (c .before .pair-fault .ensures) (c .if1 .taken)
+abbrev Inv-loop : tie.InvT-loop
+Inv-loop a b out₀ i₀ i-end out i = Filling (sums a b) (length a) out₀ out i
 
-sum-requires : tie.Need-sum-requires
-sum-requires c κs =
-    let g = c .before .before .before .before .before .before .args in
-    let f = pair-checked (g .m) (g .a .now) (g .b .now) (g .out .now) (sym (c .before .before .pair-fault .ensures) ∙ c .before .if1 .left) in
-    (f .length-b ∙ sym (f .length-a), f .length-out ∙ sym (f .length-a))
+abbrev μ-loop : tie.MeasureT-loop
+μ-loop a b out₀ i₀ i-end out i = length a - i
 
-same-length : tie.Need-same-length
-same-length c = search needs
+loop-holds : tie.Need-loop-holds Inv-loop μ-loop
+loop-holds c = filling-start (sums (c .args .a .now) (c .args .b .now)) (length (c .args .a .now)) (c .args .out .now) (c .pre .1)
 
-returns-2 : tie.Need-returns-2
-unfolding sumAnswer
-returns-2 c =
-    let e = c .before .before .before .before in
-    let g = e .before .before .before .before .before .args in
-    done _ _ (e .before .pair-fault .ensures) (e .if1 .left) _ (c .before .before .sum .ensures (g .m))
+shared-slice-read-out : tie.Need-shared-slice-read-out Inv-loop μ-loop
+shared-slice-read-out c = search needs
+
+shared-slice-read-out-2 : tie.Need-shared-slice-read-out-2 Inv-loop μ-loop
+shared-slice-read-out-2 c = search needs
+
+slice-write-out : tie.Need-slice-write-out Inv-loop μ-loop
+slice-write-out c = filling-index (c .before .before .before .loop .inv) (c .before .before .loop-test .taken)
+
+add-i : tie.Need-add-i Inv-loop μ-loop
+add-i c = search needs
+
+loop-less : tie.Need-loop-less Inv-loop μ-loop
+loop-less c = search needs
+
+loop-again : tie.Need-loop-again Inv-loop μ-loop
+unfolding _⊕_
+loop-again c = filling-turn (c .before .before .before .loop .inv) (c .before .before .loop-test .taken) refl
+
+same-length : tie.Need-same-length Inv-loop μ-loop
+same-length c = filling-length (c .before .loop .inv)
+
+returns : tie.Need-returns Inv-loop μ-loop
+unfolding blockSum
+returns c = λ m. filling-end (c .before .loop .inv) (c .loop-test .left)
 
 pub sum-spec : {M : Type 1} → statement M
-sum-spec = tie.close (tie.spec pair-fault-requires returns sum-requires same-length returns-2)
+sum-spec =
+    tie.close
+    (tie.spec
+    Inv-loop
+    μ-loop
+    loop-holds
+    shared-slice-read-out
+    shared-slice-read-out-2
+    slice-write-out
+    add-i
+    loop-less
+    loop-again
+    same-length
+    returns)

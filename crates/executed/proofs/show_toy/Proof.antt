@@ -6,6 +6,9 @@ use borrow.Author.Needs.{needs}
 use Rattle.executed.proofs.show_toy.Statement.{statement}
 use Rattle.executed.proofs.show_toy.Tie as tie
 
+toy-requires : tie.Need-toy-requires
+toy-requires c κs = search needs
+
 slice-aggregate-check : tie.Need-slice-aggregate-check
 slice-aggregate-check c = search needs
 
@@ -51,7 +54,7 @@ array-share-prefix-roots c = search needs
 slice-aggregate-print-elements-2 : tie.Need-slice-aggregate-print-elements-2
 slice-aggregate-print-elements-2 c =
     let checked = c .before .before .before .before .before .before .before .before .before .before .before .before .before .check in
-    sym (length-take-le 2 (checked .last .1 .1 .1 .1 .1 .0) (omega (arith, checked .kept .1 .1 .1 .1 .1 .0)))
+    sym (length-take-le 2 (checked .last .1 .1 .0) (omega (arith, checked .kept .1 .1 .0)))
 
 print-elements-requires-2 : tie.Need-print-elements-requires-2
 print-elements-requires-2 c κs = search needs
@@ -75,6 +78,7 @@ pub show-toy-spec : {M : Type 1} → statement M
 show-toy-spec =
     tie.close
     (tie.spec
+    toy-requires
     slice-aggregate-check
     slice-aggregate-check-2
     slice-aggregate-check-3

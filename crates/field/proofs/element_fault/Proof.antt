@@ -1,44 +1,34 @@
 -- `element_fault` meets its contract: each return is at the first rule that does not hold.
-use mathlib.Core.Path.{sym, refl}
-use mathlib.Core.List.{[], _∷_}
+use mathlib.Core.Path.{sym}
 use borrow.Author.Needs.{needs}
-use Rattle.field.specs.Rules.{_unless_, fault, isElement, fault-here, fault-past, narrow, wide, width, stranger, element}
+use Rattle.algebra.specs.All.{failed, passed}
+use Rattle.refusals.specs.Rules.{fault-here, fault-past, fault-none}
+use Rattle.field.specs.Range.{width-is}
 use Rattle.field.specs.Answers.{elementRules, elementFault}
-use Rattle.field.proofs.Shift.{shifted-out, shifted-in}
 use Rattle.field.proofs.element_fault.Statement.{statement}
 use Rattle.field.proofs.element_fault.Tie as tie
 
+is-width-requires : tie.Need-is-width-requires
+is-width-requires c κs = search needs
+
 returns : tie.Need-returns
 unfolding elementFault elementRules
-returns c = sym (fault-here 1 ((3 unless isElement (c .before .args .m) (c .before .args .a)) ∷ []) (narrow (c .before .args .m) (c .if1 .taken)))
+returns c = sym (fault-here 1 _ (failed (c .before .is-width .ensures) (c .if1 .taken)))
+
+is-element-requires : tie.Need-is-element-requires
+is-element-requires c κs = width-is (c .before .before .args .m) (passed (c .before .is-width .ensures) (c .if1 .left))
 
 returns-2 : tie.Need-returns-2
 unfolding elementFault elementRules
 returns-2 c =
-    sym
-    (fault-here 1 ((3 unless isElement (c .before .before .args .m) (c .before .before .args .a)) ∷ [])
-    (wide (c .before .before .args .m) (c .if2 .taken)))
-
-shr-if3 : tie.Need-shr-if3
-shr-if3 c = search needs
+    let w = passed (c .before .before .before .is-width .ensures) (c .before .before .if1 .left) in
+    sym (fault-past 1 _ w (fault-here 3 _ (failed (c .before .is-element .ensures) (c .if2 .taken))))
 
 returns-3 : tie.Need-returns-3
 unfolding elementFault elementRules
 returns-3 c =
-    let m = c .before .before .before .args .m in
-    let a = c .before .before .before .args .a in
-    sym
-    (fault-past 1 ((3 unless isElement m a) ∷ []) (width m (c .before .before .if1 .left) (c .before .if2 .left))
-    (fault-here 3 [] (stranger m a (shifted-out m a (c .if3 .taken)))))
-
-returns-4 : tie.Need-returns-4
-unfolding elementFault elementRules fault
-returns-4 c =
-    let m = c .before .before .before .args .m in
-    let a = c .before .before .before .args .a in
-    sym
-    (fault-past 1 ((3 unless isElement m a) ∷ []) (width m (c .before .before .if1 .left) (c .before .if2 .left))
-    (fault-past 3 [] (element m a (shifted-in m a (c .if3 .left))) refl))
+    let w = passed (c .before .before .before .is-width .ensures) (c .before .before .if1 .left) in
+    sym (fault-none _ (w, (passed (c .before .is-element .ensures) (c .if2 .left), tt)))
 
 pub element-fault-spec : {M : Type 1} → statement M
-element-fault-spec = tie.close (tie.spec returns returns-2 shr-if3 returns-3 returns-4)
+element-fault-spec = tie.close (tie.spec is-width-requires returns is-element-requires returns-2 returns-3)

@@ -2,7 +2,7 @@
 use mathlib.Core.Path.{sym, ap, _∙_}
 use borrow.Author.Needs.{needs}
 use Rattle.field.specs.declared.Answer.the-variants.{Element, Refused}
-use Rattle.field.specs.Rules.{refuse, accept}
+use Rattle.refusals.specs.Rules.{refuse, accept}
 use Rattle.field.specs.Answers.{productAnswer}
 use Rattle.field.proofs.Shift.{element-fits}
 use Rattle.field.proofs.Checked.{pair-checked}
@@ -32,7 +32,8 @@ cast-product-2 c =
 
 product-requires : tie.Need-product-requires
 product-requires c κs =
-    pair-checked (c .before .before .args .m) (c .before .before .args .a) (c .before .before .args .b) (sym (c .before .pair-fault .ensures) ∙ c .if1 .left)
+    pair-checked (c .before .before .args .m) (c .before .before .args .a) (c .before .before .args .b)
+    (sym (c .before .pair-fault .ensures) ∙ c .if1 .left)
 
 returns-2 : tie.Need-returns-2
 unfolding productAnswer

@@ -3,7 +3,7 @@ use mathlib.Core.Path.{sym, _∙_}
 use borrow.Author.Needs.{needs}
 use Rattle.algebra.specs.Xor.{_⊕_, ⊕-lt}
 use Rattle.field.specs.declared.Answer.the-variants.{Refused}
-use Rattle.field.specs.Rules.{refuse, accept}
+use Rattle.refusals.specs.Rules.{refuse, accept}
 use Rattle.field.specs.Answers.{sumAnswer}
 use Rattle.field.proofs.Shift.{element-fits}
 use Rattle.field.proofs.Checked.{pair-checked}

@@ -4,10 +4,10 @@ use mathlib.Core.List.{[], _∷_}
 use Prim.Native.Nat.{_≤_, _<_}
 use native.Mathlib.Omega.{arith}
 use lib.ListN.{length}
-use Rattle.listing.specs.Columns.{lineText}
-use Rattle.listing.specs.Reading.{length-line}
-use Rattle.listing.specs.Written.{written-over}
-use Rattle.listing.proofs.Ending.{stored-short, stored-done}
+use Rattle.fields.specs.Fields.{lineText}
+use Rattle.fields.specs.Reading.{length-line}
+use Rattle.fields.specs.Written.{written-over}
+use Rattle.listing.specs.Laws.{stored-short, stored-done}
 use borrow.Author.Needs.{needs}
 use Rattle.listing.proofs.number_line.Statement.{statement}
 use Rattle.listing.proofs.number_line.Tie as tie

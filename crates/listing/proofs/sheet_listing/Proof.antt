@@ -5,19 +5,19 @@ use Prim.Native.Nat.{ℕ, _≤_, _<_}
 use native.Mathlib.Omega.{arith}
 use lib.ListN.{length}
 use lib.Seq.{length-take-le}
+use Rattle.fields.specs.Written.{over}
 use Rattle.listing.specs.Reading.{sheet-long}
-use Rattle.listing.specs.Written.{over}
 use Rattle.listing.specs.Answers.{sheetListing}
-use Rattle.listing.proofs.Ending.{stored-short, stored-done}
-use Rattle.listing.proofs.Sheets.{n-small, sheet-is, accepted-on-sheet, listing-on-sheet, length-sheet-listing}
+use Rattle.listing.specs.Laws.{sheet-is, stored-short, stored-done}
+use Rattle.listing.proofs.Sheets.{n-small, n-is, code-held, listing-on-sheet, length-sheet-listing}
 use borrow.Author.Needs.{needs}
 use Rattle.listing.proofs.sheet_listing.Statement.{statement}
 use Rattle.listing.proofs.sheet_listing.Tie as tie
 
 parameters-of-requires : tie.Need-parameters-of-requires
 parameters-of-requires c κs =
-    let s = c .before .before .before in
-    omega (arith, sheet-long (s .args .text .now) (sheet-is (s .args .text .now) (s .pre .0)))
+    let text = c .before .before .before .before .args .text .now in
+    omega (arith, sheet-long text (sheet-is text (c .before .before .before .before .pre .none)))
 
 cast-n : tie.Need-cast-n
 cast-n c = search needs
@@ -30,46 +30,45 @@ add-length c = search needs
 
 returns : tie.Need-returns
 returns c =
-    let a = c .before .before .before .before .before .before .args in
+    let a = c .before .before .before .before .before .before .before .args in
     let text = a .text .now in
-    let long = length-sheet-listing text (c .before .before .parameters-of .ensures .n-is) in
+    let long = length-sheet-listing text (c .before .before .parameters-of .ensures) in
     let short : length (a .out .now) < length (sheetListing text) = omega (arith, long) in
     stored-short (sheetListing text) (a .out .now) short
 
 slice-aggregate-write-listing : tie.Need-slice-aggregate-write-listing
 slice-aggregate-write-listing c =
-    let s = c .before .before .before .before .before .before .before in
+    let s = c .before .before .before .before .before .before .before .before in
     let p = c .before .before .before .parameters-of in
-    let text = s .args .text .now in
-    let fits : p .result .n ≤ length (s .args .h .now) = omega (arith, n-small text (sheet-is text (s .pre .0)) (p .ensures .n-is)) in
+    let fits : p .result .n ≤ length (s .args .h .now) = omega (arith, s .pre .fits, n-is (s .args .text .now) (p .ensures)) in
     sym (length-take-le (p .result .n) (s .args .h .now) fits)
 
 write-listing-requires : tie.Need-write-listing-requires
 write-listing-requires c κs =
-    let s = c .before .before .before .before .before .before .before .before in
-    let text = s .args .text .now in
-    let e = c .before .before .before .before .parameters-of .ensures in
-    (accepted-on-sheet text (s .args .h .now) e (s .pre .2) (sheet-is text (s .pre .0)) (s .pre .0), omega arith)
+    let s = c .before .before .before .before .before .before .before .before .before in
+    let (A, I) = code-held (s .args .text .now) (c .before .before .before .before .parameters-of .ensures) (s .pre) in (A, I, omega arith)
 
-cast-t14 : tie.Need-cast-t14
-cast-t14 c =
-    let s = c .before .before .before .before .before .before .before .before .before .before .before in
-    let p = c .before .before .before .before .before .before .before .parameters-of in
-    omega (arith, n-small (s .args .text .now) (sheet-is (s .args .text .now) (s .pre .0)) (p .ensures .n-is))
+cast-t15 : tie.Need-cast-t15
+cast-t15 c =
+    let p = c .before .before .before .before .before .before .before in
+    let s = p .before .before .before .before .before in
+    let text = s .args .text .now in
+    omega (arith, n-small text (sheet-is text (s .pre .none)) (n-is text (p .parameters-of .ensures)))
 
 same-length : tie.Need-same-length
 same-length c = search needs
 
 returns-2 : tie.Need-returns-2
 returns-2 c =
-    let s = c .before .before .before .before .before .before .before .before .before .before .before in
+    let p = c .before .before .before .before .before .before .before in
+    let s = p .before .before .before .before .before in
     let text = s .args .text .now in
     let out = s .args .out .now in
-    let e = c .before .before .before .before .before .before .before .parameters-of .ensures in
-    let long = length-sheet-listing text (e .n-is) in
+    let e = p .parameters-of .ensures in
+    let long = length-sheet-listing text e in
     let fits : length (sheetListing text) ≤ length out = omega (arith, long) in
     stored-done (sheetListing text) out fits (sym long)
-    (c .before .before .write-listing .ensures ∙ ap (λ (l : List ℕ). over l out) (listing-on-sheet text (s .args .h .now) e (s .pre .2)))
+    (c .before .before .write-listing .ensures ∙ ap (λ (l : List ℕ). over l out) (listing-on-sheet text e (s .args .h .now) (s .pre .signature)))
 
 pub sheet-listing-spec : {M : Type 1} → statement M
 sheet-listing-spec =
@@ -82,6 +81,6 @@ sheet-listing-spec =
     returns
     slice-aggregate-write-listing
     write-listing-requires
-    cast-t14
+    cast-t15
     same-length
     returns-2)

@@ -38,7 +38,10 @@ turn-requires c κs =
 add-result : tie.Need-add-result
 add-result c =
     let tested = c .before .before .before .before .before .before .before .before .before .before .before .before .before in
-    record { fits = omega (arith, tested .before .before .before .before .before .before .before .before .before .before .before .before .before .pre .0 .3) }
+    record {
+      fits = omega
+          (arith, tested .before .before .before .before .before .before .before .before .before .before .before .before .before .pre .0 .3);
+    }
 
 same-length : tie.Need-same-length
 same-length c = search needs
@@ -59,7 +62,8 @@ returns c =
     let a = tested .before .before .before .before .before .before in
     let b = tested .before .before .before in
     advanced-first (tested .before .before .product .ensures .0) (a .discrepancy .ensures .0) (b .discrepancy2 .ensures .0)
-    (chosen-first (tested .before .leads .ensures (a .before .before .before .before .before .before .before .args .m)) (tested .if1 .taken)) (turn .turn .ensures)
+    (chosen-first (tested .before .leads .ensures (a .before .before .before .before .before .before .before .args .m)) (tested .if1 .taken))
+    (turn .turn .ensures)
 
 turn-requires-2 : tie.Need-turn-requires-2
 turn-requires-2 c κs =
@@ -91,7 +95,8 @@ returns-2 c =
     let a = tested .before .before .before .before .before .before in
     let b = tested .before .before .before in
     advanced-second (tested .before .before .product .ensures .0) (a .discrepancy .ensures .0) (b .discrepancy2 .ensures .0)
-    (chosen-second (tested .before .leads .ensures (a .before .before .before .before .before .before .before .args .m)) (tested .if1 .left)) (turn .turn2 .ensures)
+    (chosen-second (tested .before .leads .ensures (a .before .before .before .before .before .before .before .args .m)) (tested .if1 .left))
+    (turn .turn2 .ensures)
 
 pub advance-spec : {M : Type 1} → statement M
 advance-spec =

@@ -57,7 +57,8 @@ loop-again c =
     let start = c .before .before .before .before .before .before .before .before in
     let l = c .before .before .before .before .before .loop in (
       omega arith,
-      combine-turn (start .pre .0 .0) (start .args .a) (start .args .b) (start .pre .1 .0) (start .pre .1 .1) (l .inv .1) (omega (arith, start .pre .0 .1))
+      combine-turn (start .pre .0 .0) (start .args .a) (start .args .b) (start .pre .1 .0) (start .pre .1 .1) (l .inv .1)
+          (omega (arith, start .pre .0 .1))
           (c .before .before .product .ensures .0) (c .product2 .ensures .0),
     )
 
@@ -68,7 +69,8 @@ returns : tie.Need-returns Inv-loop μ-loop
 returns c =
     let start = c .before .before .before .before in
     let l = c .before .loop in
-    combine-end (start .pre .0 .0) (start .args .a) (start .args .b) (start .pre .1 .0) (start .pre .1 .1) (l .inv .1) (start .pre .1 .2) (omega arith)
+    combine-end (start .pre .0 .0) (start .args .a) (start .args .b) (start .pre .1 .0) (start .pre .1 .1) (l .inv .1) (start .pre .1 .2)
+    (omega arith)
     (l .inv .0)
 
 pub combine-spec : {M : Type 1} → statement M

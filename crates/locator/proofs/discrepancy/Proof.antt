@@ -28,7 +28,8 @@ unfolding _⊕_
 product-requires-3 c κs =
     let start = c .before .before .before .before .before .before in (
       start .pre .0,
-      slope-element (start .args .m) (start .args .even .now) (start .args .odd .now) (start .pre .0) (start .args .s) (start .args .z) (c .product2 .ensures .0),
+      slope-element (start .args .m) (start .args .even .now) (start .args .odd .now) (start .pre .0) (start .args .s) (start .args .z)
+          (c .product2 .ensures .0),
       c .before .before .evaluate .ensures .1,
     )
 

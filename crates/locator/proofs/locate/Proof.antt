@@ -43,7 +43,8 @@ returns c =
     let passed = tested .before .before .before .before .before .before .before in
     let even = c .before .before .before .before .before .before .before .copy .ensures in
     let odd = c .before .before .copy2 .ensures in
-    located-copied (passed .before .before .before .before .before .before .before .before .before .pre .0 .0) (passed .pass .ensures) (omega (arith, tested .if1 .taken)) even odd
+    located-copied (passed .before .before .before .before .before .before .before .before .before .pre .0 .0) (passed .pass .ensures)
+    (omega (arith, tested .if1 .taken)) even odd
 
 same-length-3 : tie.Need-same-length-3
 same-length-3 c = search needs
@@ -54,7 +55,8 @@ same-length-4 c = search needs
 returns-2 : tie.Need-returns-2
 returns-2 c =
     let passed = c .before .before .before .before .before .before .before in
-    located-first (passed .before .before .before .before .before .before .before .before .before .pre .0 .0) (passed .pass .ensures) (omega (arith, c .if1 .left))
+    located-first (passed .before .before .before .before .before .before .before .before .before .pre .0 .0) (passed .pass .ensures)
+    (omega (arith, c .if1 .left))
 
 pub locate-spec : {M : Type 1} → statement M
 locate-spec =

@@ -81,33 +81,39 @@ loop-again c =
     let l = tested .before .loop in (
       l .inv .0,
       omega (arith, tested .loop-test .taken, l .inv .0),
-      passed-more (pre .0) (pre .1) (l .inv .2) (omega (arith, tested .loop-test .taken, l .inv .0)) (c .before .before .before .before .before .before .before .before .advance .ensures),
+      passed-more (pre .0) (pre .1) (l .inv .2) (omega (arith, tested .loop-test .taken, l .inv .0))
+          (c .before .before .before .before .before .before .before .before .advance .ensures),
     )
 
 same-length : tie.Need-same-length Inv-loop μ-loop
 same-length c =
     let started = c .before .before .before .before .before .before .before .before .before .before in
-    c .before .loop .inv .2 .first .even-half .long ∙ sym (started .before .before .before .before .before .before .before .before .before .before .before .pre .1 .0)
+    c .before .loop .inv .2 .first .even-half .long
+    ∙ sym (started .before .before .before .before .before .before .before .before .before .before .before .pre .1 .0)
 
 same-length-2 : tie.Need-same-length-2 Inv-loop μ-loop
 same-length-2 c =
     let started = c .before .before .before .before .before .before .before .before .before .before in
-    c .before .loop .inv .2 .first .odd-half .long ∙ sym (started .before .before .before .before .before .before .before .before .before .before .before .pre .1 .1)
+    c .before .loop .inv .2 .first .odd-half .long
+    ∙ sym (started .before .before .before .before .before .before .before .before .before .before .before .pre .1 .1)
 
 same-length-3 : tie.Need-same-length-3 Inv-loop μ-loop
 same-length-3 c =
     let started = c .before .before .before .before .before .before .before .before .before .before in
-    c .before .loop .inv .2 .second .even-half .long ∙ sym (started .before .before .before .before .before .before .before .before .before .before .before .pre .1 .2)
+    c .before .loop .inv .2 .second .even-half .long
+    ∙ sym (started .before .before .before .before .before .before .before .before .before .before .before .pre .1 .2)
 
 same-length-4 : tie.Need-same-length-4 Inv-loop μ-loop
 same-length-4 c =
     let started = c .before .before .before .before .before .before .before .before .before .before in
-    c .before .loop .inv .2 .second .odd-half .long ∙ sym (started .before .before .before .before .before .before .before .before .before .before .before .pre .1 .3)
+    c .before .loop .inv .2 .second .odd-half .long
+    ∙ sym (started .before .before .before .before .before .before .before .before .before .before .before .pre .1 .3)
 
 returns : tie.Need-returns Inv-loop μ-loop
 returns c =
     let started = c .before .before .before .before .before .before .before .before .before .before in
-    passed-all (started .before .before .before .before .before .before .before .before .before .before .before .args .roots .now) (omega arith) (c .before .loop .inv .2)
+    passed-all (started .before .before .before .before .before .before .before .before .before .before .before .args .roots .now) (omega arith)
+    (c .before .loop .inv .2)
 
 pub pass-spec : {M : Type 1} → statement M
 pass-spec =

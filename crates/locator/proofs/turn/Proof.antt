@@ -61,7 +61,8 @@ returns : tie.Need-returns
 returns c =
     let even = c .before .before .before .before .before .before in
     let reduced = even .before .before .before .before in
-    turned (reduced .before .before .before .before .before .combine .ensures) (reduced .combine2 .ensures) (even .raise .ensures) (c .before .before .raise2 .ensures)
+    turned (reduced .before .before .before .before .before .combine .ensures) (reduced .combine2 .ensures) (even .raise .ensures)
+    (c .before .before .raise2 .ensures)
 
 pub turn-spec : {M : Type 1} → statement M
 turn-spec =

@@ -3,7 +3,7 @@ use mathlib.Core.Path.{sym, ap, ap₂, _∙_}
 use mathlib.Core.Bool.{Bool, _&&_}
 use lib.Dec.{eqb}
 use borrow.Author.Needs.{needs}
-use Rattle.field.specs.Rules.{refuse, accept}
+use Rattle.refusals.specs.Rules.{refuse, accept}
 use Rattle.params.specs.declared.Sameness.the-variants.{Refused}
 use Rattle.params.specs.Same.{sameCode}
 use Rattle.params.specs.Answers.{lowest, compared, sameFault, sameAnswer}
@@ -32,22 +32,22 @@ same-entries-requires c κs = search needs
 returns-2 : tie.Need-returns-2
 unfolding sameAnswer sameFault compared sameCode
 returns-2 c =
-    let l = c .before .before .before in
+    let l = c .before .before .before .before .before .before .before .before .before in
     let a = l .before .before .before .before .before .args in
     let number = l .lower .ensures ∙ ap₂ lowest (l .before .before .code-fault .ensures) (l .before .code-fault2 .ensures) in
-    let numbers : Bool = eqb (a .m1) (a .m2) && eqb (a .n1) (a .n2) && eqb (a .t1) (a .t2) in
+    let numbers : Bool = eqb (a .c1 .m) (a .c2 .m) && eqb (a .c1 .n) (a .c2 .n) && eqb (a .c1 .t) (a .c2 .t) in
     ap compared (sym (c .if2 .taken) ∙ ap (λ (b : Bool). numbers && b) (c .before .same-entries .ensures))
-    ∙ accept Refused _ number (c .before .before .if1 .left)
+    ∙ accept Refused _ number (c .before .before .before .before .before .before .before .before .if1 .left)
 
 returns-3 : tie.Need-returns-3
 unfolding sameAnswer sameFault compared sameCode
 returns-3 c =
-    let l = c .before .before .before in
+    let l = c .before .before .before .before .before .before .before .before .before in
     let a = l .before .before .before .before .before .args in
     let number = l .lower .ensures ∙ ap₂ lowest (l .before .before .code-fault .ensures) (l .before .code-fault2 .ensures) in
-    let numbers : Bool = eqb (a .m1) (a .m2) && eqb (a .n1) (a .n2) && eqb (a .t1) (a .t2) in
+    let numbers : Bool = eqb (a .c1 .m) (a .c2 .m) && eqb (a .c1 .n) (a .c2 .n) && eqb (a .c1 .t) (a .c2 .t) in
     ap compared (sym (c .if2 .left) ∙ ap (λ (b : Bool). numbers && b) (c .before .same-entries .ensures))
-    ∙ accept Refused _ number (c .before .before .if1 .left)
+    ∙ accept Refused _ number (c .before .before .before .before .before .before .before .before .if1 .left)
 
 pub same-spec : {M : Type 1} → statement M
 same-spec =

@@ -1,15 +1,25 @@
--- `repair` meets its contract: the code's number, or what repair answers for the whole code.
-use mathlib.Core.Path.{sym, _∙_}
+-- `repair` meets its contract: the code's number, or what the decoder answers for all columns.
+use mathlib.Core.Path.{refl, ap, _∙_}
 use mathlib.Core.Bool.{_&&_}
+use mathlib.Core.List.{List}
+use Prim.Native.Nat.{ℕ}
 use native.Mathlib.Omega.{arith}
 use lib.Dec.{eqb}
 use lib.ListN.{length}
+use borrow.Author.Tests.{eqb-true}
+use Rattle.algebra.specs.All.{both-true}
+use Rattle.params.specs.Calls.{code-refuses, code-accepted, code-passes}
+use Rattle.params.specs.Code.{n-short}
+use Rattle.words.specs.Word.{whole}
+use Rattle.words.proofs.Called.{on-whole, as-long}
+use Rattle.repair.specs.declared.Recovery.the-variants.{Refused}
+use Rattle.repair.specs.Answers.{wordRules, wordAnswer, wordAfter, repairFault, repairAnswer, repairAfter}
 use borrow.Author.Needs.{needs}
-use Rattle.field.proofs.Shift.{element-fits}
-use Rattle.words.proofs.Ending.{n-is, accepted-here}
-use Rattle.repair.proofs.Decoding.{inverted, code-short, code-refuses, lengths, as-whole}
 use Rattle.repair.proofs.repair.Statement.{statement}
 use Rattle.repair.proofs.repair.Tie as tie
+
+cast-n : tie.Need-cast-n
+cast-n c = search needs
 
 slice-aggregate-code-fault-inverses : tie.Need-slice-aggregate-code-fault-inverses
 slice-aggregate-code-fault-inverses c = search needs
@@ -18,53 +28,97 @@ code-fault-inverses-requires : tie.Need-code-fault-inverses-requires
 code-fault-inverses-requires c κs = search needs
 
 returns : tie.Need-returns
+unfolding repairAnswer repairAfter repairFault
 returns c =
-    let a = c .before .before .before .before .before .before .before .args in
-    code-refuses (a .m) (a .n) (a .t) (a .omega) (a .h .now) (a .received .now) (a .repaired .now) (c .before .before .code-fault-inverses .ensures .0) (c .if1 .taken)
+    let a = c .before .before .before .before .before .before .before .before .args in
+    let number = c .before .before .code-fault-inverses .ensures .0 in
+    let more = wordRules (a .c) (a .h .now) (whole (a .c .n)) (a .received .now) in (
+      code-refuses (eqb (length (a .received .now)) (a .c .n) && eqb (length (a .repaired .now)) (a .c .n)) (a .c) (a .h .now) number more Refused _
+          (c .if1 .taken),
+      code-refuses (eqb (length (a .received .now)) (a .c .n) && eqb (length (a .repaired .now)) (a .c .n)) (a .c) (a .h .now) number more
+          (λ k. a .repaired .now) _ (c .if1 .taken),
+    )
 
-cast-repair-whole : tie.Need-cast-repair-whole
-cast-repair-whole c =
-    let a = c .before .before .before .before .before .before .before .args in
-    let z = sym (c .before .before .code-fault-inverses .ensures .0) ∙ c .if1 .left in
-    let A = accepted-here (eqb (length (a .received .now)) (a .n) && eqb (length (a .repaired .now)) (a .n)) (a .m) (a .n) (a .t) (a .omega) (a .h .now) z in
-    record { fits = element-fits (a .m) (A .limits .width) (a .omega) (A .ω-in) }
+slice-aggregate-number-columns : tie.Need-slice-aggregate-number-columns
+slice-aggregate-number-columns c = search needs
 
-slice-aggregate-repair-whole : tie.Need-slice-aggregate-repair-whole
-slice-aggregate-repair-whole c = search needs
-
-repair-whole-requires : tie.Need-repair-whole-requires
-repair-whole-requires c κs =
+number-columns-requires : tie.Need-number-columns-requires
+number-columns-requires c κs =
     let a = c .before .before .before .before .before .before .before .before .before .args in
-    let call = c .before .before .before .before .code-fault-inverses in
-    let none = c .before .before .if1 .left in
-    let z = sym (call .ensures .0) ∙ none in
-    let B = (eqb (length (a .received .now)) (a .n) && eqb (length (a .repaired .now)) (a .n)) in
-    let A = accepted-here B (a .m) (a .n) (a .t) (a .omega) (a .h .now) z in
-    let inverses = call .last .1 .1 .1 .1 .1 .1 .0 in
-    let I =
-    inverted (a .m) (a .n) (a .h .now) inverses _ (n-is B (a .m) (a .n) (a .t) (a .omega) (a .h .now) z)
-    (omega (arith, code-short A, n-is B (a .m) (a .n) (a .t) (a .omega) (a .h .now) z, call .kept .1 .1 .1 .1 .1 .1 .0)) (call .ensures .1 none) in
-    ((A, I), lengths (a .m) (a .n) (a .t) (a .omega) (a .h .now) (a .received .now) (a .repaired .now) z)
+    omega (
+      arith,
+      n-short (code-accepted (eqb (length (a .received .now)) (a .c .n) && eqb (length (a .repaired .now)) (a .c .n)) (a .c) (a .h .now)
+          (c .before .before .before .code-fault-inverses .ensures .0) (c .before .if1 .left) .1 .limits),
+    )
+
+slice-aggregate-repair : tie.Need-slice-aggregate-repair
+slice-aggregate-repair c = search needs
+
+array-share-prefix-columns : tie.Need-array-share-prefix-columns
+array-share-prefix-columns c =
+    let a = c .before .before .before .before .before .before .before .before .before .before .before .before .args in
+    omega (
+      arith,
+      n-short (code-accepted (eqb (length (a .received .now)) (a .c .n) && eqb (length (a .repaired .now)) (a .c .n)) (a .c) (a .h .now)
+          (c .before .before .before .before .before .before .code-fault-inverses .ensures .0) (c .before .before .before .before .if1 .left) .1 .limits),
+    )
+
+slice-aggregate-repair-2 : tie.Need-slice-aggregate-repair-2
+slice-aggregate-repair-2 c =
+    as-long (c .before .before .before .before .before .before .before .before .before .before .before .before .before .args .c)
+    (c .before .before .before .number-columns .ensures) refl
+
+repair-requires : tie.Need-repair-requires
+repair-requires c κs =
+    let a = c .before .before .before .before .before .before .before .before .before .before .before .before .before .before .args in
+    let found = c .before .before .before .before .before .before .before .before .code-fault-inverses .ensures in
+    let none = c .before .before .before .before .before .before .if1 .left in
+    let (lent, A) =
+    code-accepted (eqb (length (a .received .now)) (a .c .n) && eqb (length (a .repaired .now)) (a .c .n)) (a .c) (a .h .now) (found .0) none in
+    let (r, s) = both-true (eqb (length (a .received .now)) (a .c .n)) (eqb (length (a .repaired .now)) (a .c .n)) lent in
+    let cols = c .before .before .before .before .number-columns .ensures in (
+      (on-whole (a .c) cols A, found .1 none),
+      (
+        as-long (a .c) cols (eqb-true (length (a .received .now)) (a .c .n) r),
+        as-long (a .c) cols
+            (eqb-true (length (a .repaired .now)) (a .c .n) s),
+      ),
+    )
 
 same-length : tie.Need-same-length
 same-length c = search needs
 
 returns-2 : tie.Need-returns-2
+unfolding repairAnswer repairAfter repairFault wordAnswer wordAfter
 returns-2 c =
-    let a = c .before .before .before .before .before .before .before .before .before .before .before .before .args in
-    let z = sym (c .before .before .before .before .before .before .before .code-fault-inverses .ensures .0) ∙ c .before .before .before .before .before .if1 .left in
-    let call = c .before .before .repair-whole .ensures in
-    as-whole (a .m) (a .n) (a .t) (a .omega) (a .h .now) (a .received .now) (a .repaired .now) z (call .0) (call .1)
+    let a =
+    c .before .before .before .before .before .before .before .before .before .before .before .before .before .before .before .before .before .args in
+    let number = c .before .before .before .before .before .before .before .before .before .before .before .code-fault-inverses .ensures .0 in
+    let none = c .before .before .before .before .before .before .before .before .before .if1 .left in
+    let cols = c .before .before .before .before .before .before .before .number-columns .ensures in
+    let more = wordRules (a .c) (a .h .now) (whole (a .c .n)) (a .received .now) in
+    let (answer, buffer) = c .before .before .repair .ensures in (
+      code-passes (eqb (length (a .received .now)) (a .c .n) && eqb (length (a .repaired .now)) (a .c .n)) (a .c)
+          (a .h .now) number none more Refused _
+          (answer ∙ ap (λ (x : List ℕ). wordAnswer (a .c) (a .h .now) x (a .received .now)) cols),
+      code-passes (eqb (length (a .received .now)) (a .c .n) && eqb (length (a .repaired .now)) (a .c .n)) (a .c) (a .h .now) number none more
+          (λ k. a .repaired .now) _
+          (buffer ∙ ap (λ (x : List ℕ). wordAfter (a .c) (a .h .now) x (a .received .now) (a .repaired .now)) cols),
+    )
 
 pub repair-spec : {M : Type 1} → statement M
 repair-spec =
     tie.close
     (tie.spec
+    cast-n
     slice-aggregate-code-fault-inverses
     code-fault-inverses-requires
     returns
-    cast-repair-whole
-    slice-aggregate-repair-whole
-    repair-whole-requires
+    slice-aggregate-number-columns
+    number-columns-requires
+    slice-aggregate-repair
+    array-share-prefix-columns
+    slice-aggregate-repair-2
+    repair-requires
     same-length
     returns-2)

@@ -1,18 +1,25 @@
--- `read_row` meets its contract: the code's number, or what reading answers for a code that is accepted.
-use mathlib.Core.Path.{sym, _∙_}
+-- `read_row` meets its contract: the code's number, or what is read of all columns.
+use mathlib.Core.Path.{refl, ap, _∙_}
 use mathlib.Core.Bool.{_&&_}
-use Prim.Native.Nat.{_≤_}
+use mathlib.Core.List.{List}
+use Prim.Native.Nat.{ℕ}
 use native.Mathlib.Omega.{arith}
 use lib.Dec.{eqb}
 use lib.ListN.{length}
-use Rattle.field.proofs.Shift.{element-fits}
-use Rattle.words.proofs.Ending.{code-is, n-is, accepted-here}
-use Rattle.repair.proofs.Decoding.{code-short, lengths}
-use Rattle.repair.proofs.Decoding.{inverted}
-use Rattle.rows.proofs.Ending.{read-refused, read-ended}
+use borrow.Author.Tests.{eqb-true}
+use Rattle.algebra.specs.All.{both-true}
+use Rattle.params.specs.Calls.{code-refuses, code-accepted, code-passes}
+use Rattle.params.specs.Code.{n-short}
+use Rattle.words.specs.Word.{whole}
+use Rattle.words.proofs.Called.{on-whole, as-long}
+use Rattle.rows.specs.declared.Reading.the-variants.{Refused}
+use Rattle.rows.specs.Answers.{readRules, readingAnswer, readingAfter, readFault, readAnswer, readAfter}
 use borrow.Author.Needs.{needs}
 use Rattle.rows.proofs.read_row.Statement.{statement}
 use Rattle.rows.proofs.read_row.Tie as tie
+
+cast-n : tie.Need-cast-n
+cast-n c = search needs
 
 slice-aggregate-code-fault-inverses : tie.Need-slice-aggregate-code-fault-inverses
 slice-aggregate-code-fault-inverses c = search needs
@@ -21,62 +28,97 @@ code-fault-inverses-requires : tie.Need-code-fault-inverses-requires
 code-fault-inverses-requires c κs = search needs
 
 returns : tie.Need-returns
+unfolding readAnswer readAfter readFault
 returns c =
-    let a = c .before .before .before .before .before .before .before .args in
-    read-refused (a .m) (a .n) (a .t) (a .omega) (a .h .now) (a .received .now) (a .repaired .now)
-    (c .before .before .code-fault-inverses .ensures .0) (c .if1 .taken)
+    let a = c .before .before .before .before .before .before .before .before .args in
+    let number = c .before .before .code-fault-inverses .ensures .0 in
+    let more = readRules (a .c) (a .h .now) (whole (a .c .n)) (a .received .now) in (
+      code-refuses (eqb (length (a .received .now)) (a .c .n) && eqb (length (a .repaired .now)) (a .c .n)) (a .c) (a .h .now) number more Refused _
+          (c .if1 .taken),
+      code-refuses (eqb (length (a .received .now)) (a .c .n) && eqb (length (a .repaired .now)) (a .c .n)) (a .c) (a .h .now) number more
+          (λ k. a .repaired .now) _ (c .if1 .taken),
+    )
 
-cast-accepted-read : tie.Need-cast-accepted-read
-cast-accepted-read c =
-    let a = c .before .before .before .before .before .before .before .args in
-    let z =
-    sym (c .before .before .code-fault-inverses .ensures .0)
-    ∙ c .if1 .left in
-    let A =
-    accepted-here (eqb (length (a .received .now)) (a .n) && eqb (length (a .repaired .now)) (a .n)) (a .m) (a .n) (a .t) (a .omega) (a .h .now) z in
-    record { fits = element-fits (a .m) (A .limits .width) (a .omega) (A .ω-in) }
+slice-aggregate-number-columns : tie.Need-slice-aggregate-number-columns
+slice-aggregate-number-columns c = search needs
 
-slice-aggregate-accepted-read : tie.Need-slice-aggregate-accepted-read
-slice-aggregate-accepted-read c = search needs
-
-accepted-read-requires : tie.Need-accepted-read-requires
-accepted-read-requires c κs =
+number-columns-requires : tie.Need-number-columns-requires
+number-columns-requires c κs =
     let a = c .before .before .before .before .before .before .before .before .before .args in
-    let call = c .before .before .before .before .code-fault-inverses in
-    let none = c .before .before .if1 .left in
-    let z = sym (call .ensures .0) ∙ none in
-    let B = (eqb (length (a .received .now)) (a .n) && eqb (length (a .repaired .now)) (a .n)) in
-    let inverses = call .last .1 .1 .1 .1 .1 .1 .0 in
-    let long : a .n ≤ length inverses =
-    omega (arith, code-short (code-is B (a .m) (a .n) (a .t) (a .omega) (a .h .now) z .1), call .kept .1 .1 .1 .1 .1 .1 .0) in (
+    omega (
+      arith,
+      n-short (code-accepted (eqb (length (a .received .now)) (a .c .n) && eqb (length (a .repaired .now)) (a .c .n)) (a .c) (a .h .now)
+          (c .before .before .before .code-fault-inverses .ensures .0) (c .before .if1 .left) .1 .limits),
+    )
+
+slice-aggregate-read : tie.Need-slice-aggregate-read
+slice-aggregate-read c = search needs
+
+array-share-prefix-columns : tie.Need-array-share-prefix-columns
+array-share-prefix-columns c =
+    let a = c .before .before .before .before .before .before .before .before .before .before .before .before .args in
+    omega (
+      arith,
+      n-short (code-accepted (eqb (length (a .received .now)) (a .c .n) && eqb (length (a .repaired .now)) (a .c .n)) (a .c) (a .h .now)
+          (c .before .before .before .before .before .before .code-fault-inverses .ensures .0) (c .before .before .before .before .if1 .left) .1 .limits),
+    )
+
+slice-aggregate-read-2 : tie.Need-slice-aggregate-read-2
+slice-aggregate-read-2 c =
+    as-long (c .before .before .before .before .before .before .before .before .before .before .before .before .before .args .c)
+    (c .before .before .before .number-columns .ensures) refl
+
+read-requires : tie.Need-read-requires
+read-requires c κs =
+    let a = c .before .before .before .before .before .before .before .before .before .before .before .before .before .before .args in
+    let found = c .before .before .before .before .before .before .before .before .code-fault-inverses .ensures in
+    let none = c .before .before .before .before .before .before .if1 .left in
+    let (lent, A) =
+    code-accepted (eqb (length (a .received .now)) (a .c .n) && eqb (length (a .repaired .now)) (a .c .n)) (a .c) (a .h .now) (found .0) none in
+    let (r, s) = both-true (eqb (length (a .received .now)) (a .c .n)) (eqb (length (a .repaired .now)) (a .c .n)) lent in
+    let cols = c .before .before .before .before .number-columns .ensures in (
+      (on-whole (a .c) cols A, found .1 none),
       (
-        accepted-here B (a .m) (a .n) (a .t) (a .omega) (a .h .now) z,
-        inverted (a .m) (a .n) (a .h .now) inverses _ (n-is B (a .m) (a .n) (a .t) (a .omega) (a .h .now) z) long (call .ensures .1 none),
+        as-long (a .c) cols (eqb-true (length (a .received .now)) (a .c .n) r),
+        as-long (a .c) cols
+            (eqb-true (length (a .repaired .now)) (a .c .n) s),
       ),
-      lengths (a .m) (a .n) (a .t) (a .omega) (a .h .now) (a .received .now) (a .repaired .now) z,
     )
 
 same-length : tie.Need-same-length
 same-length c = search needs
 
 returns-2 : tie.Need-returns-2
+unfolding readAnswer readAfter readFault readingAnswer readingAfter
 returns-2 c =
-    let a = c .before .before .before .before .before .before .before .before .before .before .before .before .args in
-    let z =
-    sym (c .before .before .before .before .before .before .before .code-fault-inverses .ensures .0)
-    ∙ c .before .before .before .before .before .if1 .left in
-    let call = c .before .before .accepted-read .ensures in
-    read-ended (a .m) (a .n) (a .t) (a .omega) (a .h .now) (a .received .now) (a .repaired .now) z (call .0) (call .1)
+    let a =
+    c .before .before .before .before .before .before .before .before .before .before .before .before .before .before .before .before .before .args in
+    let number = c .before .before .before .before .before .before .before .before .before .before .before .code-fault-inverses .ensures .0 in
+    let none = c .before .before .before .before .before .before .before .before .before .if1 .left in
+    let cols = c .before .before .before .before .before .before .before .number-columns .ensures in
+    let more = readRules (a .c) (a .h .now) (whole (a .c .n)) (a .received .now) in
+    let (answer, buffer) = c .before .before .read .ensures in (
+      code-passes (eqb (length (a .received .now)) (a .c .n) && eqb (length (a .repaired .now)) (a .c .n)) (a .c)
+          (a .h .now) number none more Refused _
+          (answer ∙ ap (λ (x : List ℕ). readingAnswer (a .c) (a .h .now) x (a .received .now)) cols),
+      code-passes (eqb (length (a .received .now)) (a .c .n) && eqb (length (a .repaired .now)) (a .c .n)) (a .c) (a .h .now) number none more
+          (λ k. a .repaired .now) _
+          (buffer ∙ ap (λ (x : List ℕ). readingAfter (a .c) (a .h .now) x (a .received .now) (a .repaired .now)) cols),
+    )
 
 pub read-row-spec : {M : Type 1} → statement M
 read-row-spec =
     tie.close
     (tie.spec
+    cast-n
     slice-aggregate-code-fault-inverses
     code-fault-inverses-requires
     returns
-    cast-accepted-read
-    slice-aggregate-accepted-read
-    accepted-read-requires
+    slice-aggregate-number-columns
+    number-columns-requires
+    slice-aggregate-read
+    array-share-prefix-columns
+    slice-aggregate-read-2
+    read-requires
     same-length
     returns-2)

@@ -5,7 +5,7 @@ use native.Mathlib.Omega.{arith}
 use lib.ListN.{length}
 use lib.Seq.{length-take-le}
 use Rattle.listing.specs.Answers.{printedText, printedAnswer}
-use Rattle.listing.proofs.Ending.{stored-fits}
+use Rattle.listing.specs.Laws.{stored-fits}
 use borrow.Author.Needs.{needs}
 use Rattle.sheet.proofs.print.Statement.{statement}
 use Rattle.sheet.proofs.print.Tie as tie

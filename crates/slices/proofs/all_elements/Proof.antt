@@ -1,48 +1,41 @@
--- `all_elements` meets its contract. The loop's invariant: every entry passed is an element.
-use mathlib.Core.Path.{_≡_, refl, sym}
-use mathlib.Core.Bool.{true}
-use Prim.Native.Nat.{ℕ, _-_, _≤_, _<_}
-use native.Mathlib.Nat.{not-suc-le-zero}
+-- `all_elements` meets its contract: it scans the entries.
+use mathlib.Core.Path.{_≡_, refl}
+use Prim.Native.Nat.{_-_}
 use native.Mathlib.Omega.{arith}
-use borrow.Author.Count.{below-more}
-use lib.ListN.{length, getD}
-use Rattle.algebra.specs.All.{all-true, all-false}
+use lib.ListN.{length}
+use Rattle.algebra.specs.All.{failed, passed, Scanning, scanning-start, scanning-turn, scanning-fails, scanning-end}
+use Rattle.algebra.specs.Lists.{entryOf}
 use Rattle.field.specs.Gf.{Width}
-use Rattle.field.specs.Rules.{isElement, element, stranger}
-use Rattle.field.proofs.Shift.{shifted-out, shifted-in}
+use Rattle.field.specs.Range.{isElement}
 use Rattle.slices.specs.Elements.{allElements}
-use borrow.Author.Needs.{needs}
 use Rattle.slices.proofs.all_elements.Statement.{statement}
+use borrow.Author.Needs.{needs}
 use Rattle.slices.proofs.all_elements.Tie as tie
 
 abbrev Inv-loop : tie.InvT-loop
-Inv-loop m a i₀ i-end i =
-    Width m × (i-end ≡ length a) × (i ≤ length a) × ((k : ℕ) → k < i → isElement m (getD a k 0) ≡ true)
+Inv-loop m a i₀ i-end i = Width m × (i-end ≡ length a) × Scanning (length a) (λ k. isElement m (entryOf a k)) i
 
 abbrev μ-loop : tie.MeasureT-loop
 μ-loop m a i₀ i-end i = length a - i
 
 loop-holds : tie.Need-loop-holds Inv-loop μ-loop
-loop-holds c = (c .pre, refl, omega arith, λ k h. absurd (not-suc-le-zero h))
+loop-holds c =
+    let a = c .before .args in (c .before .pre, refl, scanning-start (length (a .a .now)) (λ k. isElement (a .m) (entryOf (a .a .now) k)))
 
-shared-slice-read-if1 : tie.Need-shared-slice-read-if1 Inv-loop μ-loop
-shared-slice-read-if1 c = search needs
+shared-slice-read-is-element : tie.Need-shared-slice-read-is-element Inv-loop μ-loop
+shared-slice-read-is-element c = search needs
 
-cast-if1 : tie.Need-cast-if1 Inv-loop μ-loop
-cast-if1 c = omega (arith, c .shared-slice-known .given (c .before .before .loop .i))
+cast-is-element : tie.Need-cast-is-element Inv-loop μ-loop
+cast-is-element c = omega (arith, c .shared-slice-known2 .given (c .before .before .loop .i))
 
-shr-if1 : tie.Need-shr-if1 Inv-loop μ-loop
-shr-if1 c = search needs
+is-element-requires : tie.Need-is-element-requires Inv-loop μ-loop
+is-element-requires c κs = search needs
 
 returns : tie.Need-returns Inv-loop μ-loop
 unfolding allElements
 returns c =
-    let m = c .before .before .before .before .args .m in
-    let a = c .before .before .before .before .args .a .now in
-    let i = c .before .before .before .loop .i in
-    sym
-    (all-false (length a) (λ k. isElement m (getD a k 0)) i (c .before .before .loop-test .taken)
-    (stranger m (getD a i 0) (shifted-out m (getD a i 0) (c .if1 .taken))))
+    scanning-fails (c .before .before .before .before .loop .inv .2) (c .before .before .before .loop-test .taken)
+    (failed (c .before .is-element .ensures) (c .if1 .taken))
 
 add-i : tie.Need-add-i Inv-loop μ-loop
 add-i c = search needs
@@ -52,23 +45,16 @@ loop-less c = search needs
 
 loop-again : tie.Need-loop-again Inv-loop μ-loop
 loop-again c =
-    let m = c .before .before .before .before .args .m in
-    let a = c .before .before .before .before .args .a .now in
-    let l = c .before .before .before .loop in (
+    let l = c .before .before .before .before .loop in (
       l .inv .0,
       refl,
-      omega arith,
-      below-more (λ (k : ℕ). isElement m (getD a k 0) ≡ true) (l .i) (l .inv .3)
-          (element m (getD a (l .i) 0) (shifted-in m (getD a (l .i) 0) (c .if1 .left))),
+      scanning-turn (l .inv .2) (c .before .before .before .loop-test .taken)
+          (passed (c .before .is-element .ensures) (c .if1 .left)),
     )
 
 returns-2 : tie.Need-returns-2 Inv-loop μ-loop
 unfolding allElements
-returns-2 c =
-    let m = c .before .before .args .m in
-    let a = c .before .before .args .a .now in
-    let l = c .before .loop in
-    sym (all-true (length a) (λ k. isElement m (getD a k 0)) (λ k h. l .inv .3 k (omega arith)))
+returns-2 c = scanning-end (c .before .loop .inv .2) (omega arith)
 
 pub all-elements-spec : {M : Type 1} → statement M
 all-elements-spec =
@@ -77,9 +63,9 @@ all-elements-spec =
     Inv-loop
     μ-loop
     loop-holds
-    shared-slice-read-if1
-    cast-if1
-    shr-if1
+    shared-slice-read-is-element
+    cast-is-element
+    is-element-requires
     returns
     add-i
     loop-less

@@ -25,7 +25,8 @@ mul-p c = omega arith
 
 loop-less : tie.Need-loop-less Inv-loop μ-loop
 loop-less c =
-    let positive : 0 < c .before .loop .p = subst (λ (x : ℕ). 0 < x) (sym (c .before .loop .inv .1 .value)) (pow-pos (c .before .loop .inv .1 .exponent)) in
+    let positive : 0 < c .before .loop .p =
+    subst (λ (x : ℕ). 0 < x) (sym (c .before .loop .inv .1 .value)) (pow-pos (c .before .loop .inv .1 .exponent)) in
     omega arith
 
 loop-again : tie.Need-loop-again Inv-loop μ-loop

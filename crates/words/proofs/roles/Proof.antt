@@ -1,19 +1,23 @@
 -- `roles` meets its contract: the code's number stands, and where there is none the code is accepted.
-use mathlib.Core.Path.{sym, ap, _∙_}
-use Prim.Native.Nat.{ℕ}
+use mathlib.Core.Path.{refl, ap, _∙_}
+use native.Mathlib.Omega.{arith}
 use lib.Dec.{eqb}
 use lib.ListN.{length}
 use borrow.Author.Tests.{eqb-true}
-use Rattle.field.specs.Rules.{refuse, accept}
+use Rattle.refusals.specs.Rules.{refuse, accept}
 use Rattle.params.specs.Answers.{codeFault}
+use Rattle.params.specs.Calls.{code-accepted}
+use Rattle.params.specs.Code.{n-short}
 use Rattle.words.specs.declared.Counted.the-variants.{Count, Refused}
-use Rattle.words.specs.Word.{whole}
-use Rattle.words.specs.Columns.{rolesOf}
-use Rattle.words.specs.Answers.{messageLength, rolesFault, rolesAnswer, rolesAfter}
-use Rattle.words.proofs.Ending.{code-is, n-is, accepted-here}
+use Rattle.words.specs.Columns.{rolesOf, dimension}
+use Rattle.words.specs.Answers.{rolesFault, rolesAnswer, rolesAfter}
+use Rattle.words.proofs.Called.{on-whole, as-long}
 use borrow.Author.Needs.{needs}
 use Rattle.words.proofs.roles.Statement.{statement}
 use Rattle.words.proofs.roles.Tie as tie
+
+cast-n : tie.Need-cast-n
+cast-n c = search needs
 
 code-fault-requires : tie.Need-code-fault-requires
 code-fault-requires c κs = search needs
@@ -21,19 +25,39 @@ code-fault-requires c κs = search needs
 returns : tie.Need-returns
 unfolding rolesAnswer rolesAfter rolesFault codeFault
 returns c =
-    let s = c .before .before .before .before in
     let e = c .before .code-fault .ensures in
-    (refuse Refused _ e (c .if1 .taken), refuse (λ k. s .args .out .now) _ e (c .if1 .taken))
+    (refuse Refused _ e (c .if1 .taken), refuse (λ k. c .before .before .before .before .before .args .out .now) _ e (c .if1 .taken))
 
-accepted-roles-requires : tie.Need-accepted-roles-requires
-accepted-roles-requires c κs =
-    let s = c .before .before .before .before .before in
-    let a = s .args in
-    let z = sym (c .before .before .code-fault .ensures) ∙ c .before .if1 .left in
-    let B = eqb (length (a .out .now)) (a .n) in (
-      accepted-here B (a .m) (a .n) (a .t) (a .omega) (a .h .now) z .limits,
-      eqb-true (length (a .out .now)) (a .n) (code-is B (a .m) (a .n) (a .t) (a .omega) (a .h .now) z .0) ∙ n-is B (a .m) (a .n) (a .t) (a .omega) (a .h .now) z,
-    )
+slice-aggregate-number-columns : tie.Need-slice-aggregate-number-columns
+slice-aggregate-number-columns c = search needs
+
+number-columns-requires : tie.Need-number-columns-requires
+number-columns-requires c κs =
+    let a = c .before .before .before .before .before .before .args in
+    let (lent, A) =
+    code-accepted (eqb (length (a .out .now)) (a .c .n)) (a .c) (a .h .now) (c .before .before .code-fault .ensures) (c .before .if1 .left) in
+    omega (arith, n-short (A .limits))
+
+array-share-prefix-columns : tie.Need-array-share-prefix-columns
+array-share-prefix-columns c =
+    let a = c .before .before .before .before .before .before .before .before .args in
+    let (lent, A) =
+    code-accepted (eqb (length (a .out .now)) (a .c .n)) (a .c) (a .h .now) (c .before .before .before .before .code-fault .ensures)
+    (c .before .before .before .if1 .left) in
+    omega (arith, n-short (A .limits))
+
+slice-aggregate-roles : tie.Need-slice-aggregate-roles
+slice-aggregate-roles c =
+    as-long (c .before .before .before .before .before .before .before .before .before .args .c) (c .before .before .number-columns .ensures) refl
+
+roles-requires : tie.Need-roles-requires
+roles-requires c κs =
+    let a = c .before .before .before .before .before .before .before .before .before .before .args in
+    let (lent, A) =
+    code-accepted (eqb (length (a .out .now)) (a .c .n)) (a .c) (a .h .now) (c .before .before .before .before .before .before .code-fault .ensures)
+    (c .before .before .before .before .before .if1 .left) in
+    let cols = c .before .before .before .number-columns .ensures in
+    (on-whole (a .c) cols A, as-long (a .c) cols (eqb-true (length (a .out .now)) (a .c .n) lent))
 
 same-length : tie.Need-same-length
 same-length c = search needs
@@ -41,18 +65,26 @@ same-length c = search needs
 returns-2 : tie.Need-returns-2
 unfolding rolesAnswer rolesAfter rolesFault codeFault
 returns-2 c =
-    let s = c .before .before .before .before .before .before .before .before in
-    let a = s .args in
-    let e = c .before .before .before .before .before .code-fault .ensures in
-    let z = sym e ∙ c .before .before .before .before .if1 .left in
-    let B = eqb (length (a .out .now)) (a .n) in
-    let N = n-is B (a .m) (a .n) (a .t) (a .omega) (a .h .now) z in
-    let call = c .before .before .accepted-roles in
-    let got = call .ensures (a .omega) (accepted-here B (a .m) (a .n) (a .t) (a .omega) (a .h .now) z) in (
-      ap Count (got .0 ∙ ap (λ (k : ℕ). messageLength (a .m) k (a .t) (a .omega) (a .h .now)) (sym N)) ∙ accept Refused _ e (c .before .before .before .before .if1 .left),
-      got .1 ∙ ap (λ (k : ℕ). rolesOf (a .m) (a .t) (a .omega) (a .h .now) (whole k)) (sym N) ∙ accept (λ k. a .out .now) _ e (c .before .before .before .before .if1 .left),
+    let a = c .before .before .before .before .before .before .before .before .before .before .before .before .before .args in
+    let e = c .before .before .before .before .before .before .before .before .before .code-fault .ensures in
+    let none = c .before .before .before .before .before .before .before .before .if1 .left in
+    let cols = c .before .before .before .before .before .before .number-columns .ensures in
+    let roles = c .before .before .roles .ensures in (
+      ap Count (roles .0 ∙ ap (dimension (a .c) (a .h .now)) cols) ∙ accept Refused _ e none,
+      roles .1 ∙ ap (rolesOf (a .c) (a .h .now)) cols ∙ accept (λ k. a .out .now) _ e none,
     )
 
 pub roles-spec : {M : Type 1} → statement M
 roles-spec =
-    tie.close (tie.spec code-fault-requires returns accepted-roles-requires same-length returns-2)
+    tie.close
+    (tie.spec
+    cast-n
+    code-fault-requires
+    returns
+    slice-aggregate-number-columns
+    number-columns-requires
+    array-share-prefix-columns
+    slice-aggregate-roles
+    roles-requires
+    same-length
+    returns-2)

@@ -1,6 +1,6 @@
 -- `zov_check` meets its contract: the outcome as a number, and the buffers as the call leaves them.
 use mathlib.Core.Path.{ap, _∙_}
-use Rattle.capi.specs.Wire.{outcomeCode}
+use Rattle.wire.specs.Wire.{outcomeCode}
 use borrow.Author.Needs.{needs}
 use Rattle.capi.proofs.codes.zov_check.Statement.{statement}
 use Rattle.capi.proofs.codes.zov_check.Tie as tie

@@ -1,6 +1,6 @@
 -- `zov_same` meets its contract: the answer, as a number.
 use mathlib.Core.Path.{ap, _∙_}
-use Rattle.capi.specs.Wire.{samenessCode}
+use Rattle.wire.specs.Wire.{samenessCode}
 use borrow.Author.Needs.{needs}
 use Rattle.capi.proofs.codes.zov_same.Statement.{statement}
 use Rattle.capi.proofs.codes.zov_same.Tie as tie

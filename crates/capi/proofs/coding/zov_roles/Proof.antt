@@ -1,6 +1,6 @@
 -- `zov_roles` meets its contract: the answer as a number, and the buffer as the call leaves it.
 use mathlib.Core.Path.{ap, _∙_}
-use Rattle.capi.specs.Wire.{countedCode}
+use Rattle.wire.specs.Wire.{countedCode}
 use borrow.Author.Needs.{needs}
 use Rattle.capi.proofs.coding.zov_roles.Statement.{statement}
 use Rattle.capi.proofs.coding.zov_roles.Tie as tie

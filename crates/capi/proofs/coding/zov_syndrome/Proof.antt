@@ -1,6 +1,6 @@
 -- `zov_syndrome` meets its contract: the answer as a number, and the buffer as the call leaves it.
 use mathlib.Core.Path.{ap, _∙_}
-use Rattle.capi.specs.Wire.{outcomeCode}
+use Rattle.wire.specs.Wire.{outcomeCode}
 use borrow.Author.Needs.{needs}
 use Rattle.capi.proofs.coding.zov_syndrome.Statement.{statement}
 use Rattle.capi.proofs.coding.zov_syndrome.Tie as tie

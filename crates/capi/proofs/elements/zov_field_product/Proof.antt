@@ -1,6 +1,6 @@
 -- `zov_field_product` meets its contract: the field's answer, as a number.
 use mathlib.Core.Path.{ap, _∙_}
-use Rattle.capi.specs.Wire.{elementCode}
+use Rattle.wire.specs.Wire.{elementCode}
 use borrow.Author.Needs.{needs}
 use Rattle.capi.proofs.elements.zov_field_product.Statement.{statement}
 use Rattle.capi.proofs.elements.zov_field_product.Tie as tie

@@ -1,6 +1,6 @@
 -- `zov_field_sum` meets its contract: the field's answer, as a number.
 use mathlib.Core.Path.{ap, _∙_}
-use Rattle.capi.specs.Wire.{elementCode}
+use Rattle.wire.specs.Wire.{elementCode}
 use borrow.Author.Needs.{needs}
 use Rattle.capi.proofs.elements.zov_field_sum.Statement.{statement}
 use Rattle.capi.proofs.elements.zov_field_sum.Tie as tie

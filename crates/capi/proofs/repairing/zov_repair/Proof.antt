@@ -1,6 +1,6 @@
 -- `zov_repair` meets its contract: the answer as a number, and the buffer as the call leaves it.
 use mathlib.Core.Path.{ap, _∙_}
-use Rattle.capi.specs.Wire.{recoveryCode}
+use Rattle.wire.specs.Wire.{recoveryCode}
 use borrow.Author.Needs.{needs}
 use Rattle.capi.proofs.repairing.zov_repair.Statement.{statement}
 use Rattle.capi.proofs.repairing.zov_repair.Tie as tie

@@ -1,6 +1,6 @@
 -- `zov_sheet` meets its contract: the answer as a number, and the buffer as the call leaves it.
 use mathlib.Core.Path.{ap, _∙_}
-use Rattle.capi.specs.Wire.{listedCode}
+use Rattle.wire.specs.Wire.{listedCode}
 use borrow.Author.Needs.{needs}
 use Rattle.capi.proofs.sheets.zov_sheet.Statement.{statement}
 use Rattle.capi.proofs.sheets.zov_sheet.Tie as tie

@@ -49,7 +49,8 @@ loop-again c =
 returns : tie.Need-returns Inv-loop μ-loop
 returns c =
     let l = c .before .loop in (
-      chain-end (c .before .before .args .m) (l .inv .0) (c .before .before .args .a) (l .squared) (l .result) (l .counter) (c .loop-test .left) (l .inv .1),
+      chain-end (c .before .before .args .m) (l .inv .0) (c .before .before .args .a) (l .squared) (l .result) (l .counter) (c .loop-test .left)
+          (l .inv .1),
       l .inv .1 .result-lt,
     )
 

@@ -55,7 +55,8 @@ loop-again c =
     let a = c .before .before .before .args .a in
     let b = c .before .before .before .args .b in (
       l .inv .0,
-      subst (λ (x : ℕ). Gathering m (l .inv .0) a b (l .sum ⊕ l .bits % 2 * l .shifted) x (l .bits / 2) (l .counter + 1)) (sym (c .times-u .ensures .0))
+      subst (λ (x : ℕ). Gathering m (l .inv .0) a b (l .sum ⊕ l .bits % 2 * l .shifted) x (l .bits / 2) (l .counter + 1))
+          (sym (c .times-u .ensures .0))
           (gather-turn m (l .inv .0) a b (l .sum) (l .shifted) (l .bits) (l .counter) (c .before .loop-test .taken) (l .inv .1)),
       l .inv .2,
     )

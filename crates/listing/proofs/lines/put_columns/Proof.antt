@@ -3,10 +3,10 @@ use mathlib.Core.Path.{_≡_, refl, sym, ap, _∙_}
 use Prim.Native.Nat.{ℕ, _+_, _*_, _-_}
 use native.Mathlib.Omega.{arith}
 use lib.ListN.{length}
-use Rattle.listing.specs.Columns.{lineLength}
+use Rattle.fields.specs.Fields.{lineLength}
+use Rattle.fields.proofs.Printing.{Joining, joining-start, joining-length, joining-turn, joining-end}
+use Rattle.listing.specs.Laws.{length-columns}
 use Rattle.listing.specs.Listing.{columnLine}
-use Rattle.listing.proofs.Printing.{Joining, joining-start, joining-length, joining-turn, joining-end}
-use Rattle.listing.proofs.Rows.{length-columns}
 use borrow.Author.Needs.{needs}
 use Rattle.listing.proofs.lines.put_columns.Statement.{statement}
 use Rattle.listing.proofs.lines.put_columns.Tie as tie

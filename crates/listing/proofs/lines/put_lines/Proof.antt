@@ -1,4 +1,5 @@
 -- `put_lines` meets its contract.
+use Rattle.listing.specs.Listing.{codeLine}
 use Rattle.listing.proofs.Rows.{lines-written}
 use borrow.Author.Needs.{needs}
 use Rattle.listing.proofs.lines.put_lines.Statement.{statement}
@@ -20,11 +21,12 @@ same-length : tie.Need-same-length
 same-length c = search needs
 
 returns : tie.Need-returns
+unfolding codeLine
 returns c =
     let s = c .before .before .before .before .before .before .before .before .before .before .before .before .before .before in
     let a = s .args in
     let line = c .before .before .before .before .before .before .put-line .ensures in
-    lines-written (a .c .m) (a .c .n) (a .c .t) (a .c .omega) (a .k) (a .h .now) (a .support .now) (a .roles .now) (a .out .now)
+    lines-written (a .c) (a .k) (a .h .now) (a .support .now) (a .roles .now) (a .out .now)
     (s .pre .0 .h-long) (s .pre .2) (line .1) (line .0) (c .before .before .put-columns .ensures)
 
 pub put-lines-spec : {M : Type 1} → statement M

@@ -1,6 +1,7 @@
 -- `write_listing` meets its contract.
 use mathlib.Core.Path.{sym}
-use Rattle.listing.proofs.Described.{n-longest, n-taken}
+use Rattle.params.specs.Code.{n-short}
+use Rattle.listing.proofs.Rows.{n-taken}
 use borrow.Author.Needs.{needs}
 use Rattle.listing.proofs.lines.write_listing.Statement.{statement}
 use Rattle.listing.proofs.lines.write_listing.Tie as tie
@@ -8,28 +9,21 @@ use Rattle.listing.proofs.lines.write_listing.Tie as tie
 cast-n : tie.Need-cast-n
 cast-n c = search needs
 
-array-borrow-prefix-roots : tie.Need-array-borrow-prefix-roots
-array-borrow-prefix-roots c = n-longest (c .before .before .before .pre .0)
+array-borrow-prefix-support : tie.Need-array-borrow-prefix-support
+array-borrow-prefix-support c = n-short (c .before .before .before .before .pre .0 .limits)
 
 slice-aggregate-compute-lines : tie.Need-slice-aggregate-compute-lines
-slice-aggregate-compute-lines c = n-taken (c .before .before .before .before .pre .0)
-
-array-borrow-prefix-support : tie.Need-array-borrow-prefix-support
-array-borrow-prefix-support c = n-longest (c .before .before .before .before .pre .0)
-
-slice-aggregate-compute-lines-2 : tie.Need-slice-aggregate-compute-lines-2
-slice-aggregate-compute-lines-2 c = n-taken (c .before .before .before .before .before .pre .0)
+slice-aggregate-compute-lines c = n-taken (c .before .before .before .before .before .pre .0)
 
 array-borrow-prefix-roles : tie.Need-array-borrow-prefix-roles
-array-borrow-prefix-roles c = n-longest (c .before .before .before .before .before .pre .0)
+array-borrow-prefix-roles c = n-short (c .before .before .before .before .before .pre .0 .limits)
 
-slice-aggregate-compute-lines-3 : tie.Need-slice-aggregate-compute-lines-3
-slice-aggregate-compute-lines-3 c = n-taken (c .before .before .before .before .before .before .pre .0)
+slice-aggregate-compute-lines-2 : tie.Need-slice-aggregate-compute-lines-2
+slice-aggregate-compute-lines-2 c = n-taken (c .before .before .before .before .before .before .pre .0)
 
 compute-lines-requires : tie.Need-compute-lines-requires
 compute-lines-requires c κs =
-    let p = c .before .before .before .before .before .before .before .pre in
-    (p, (sym (n-taken (p .0)), sym (n-taken (p .0)), sym (n-taken (p .0))))
+    let p = c .before .before .before .before .before .before .before .pre in (p, (sym (n-taken (p .0)), sym (n-taken (p .0))))
 
 same-length : tie.Need-same-length
 same-length c = search needs
@@ -42,12 +36,10 @@ write-listing-spec =
     tie.close
     (tie.spec
     cast-n
-    array-borrow-prefix-roots
-    slice-aggregate-compute-lines
     array-borrow-prefix-support
-    slice-aggregate-compute-lines-2
+    slice-aggregate-compute-lines
     array-borrow-prefix-roles
-    slice-aggregate-compute-lines-3
+    slice-aggregate-compute-lines-2
     compute-lines-requires
     same-length
     returns)

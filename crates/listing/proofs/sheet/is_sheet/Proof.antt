@@ -4,9 +4,9 @@ use mathlib.Core.Bool.{Bool, _&&_, false≢true}
 use Prim.Native.Nat.{_+_}
 use native.Mathlib.Omega.{arith}
 use lib.ListN.{length}
-use borrow.Author.Tests.{eq-eqb, not-true, not-false}
-use Rattle.algebra.specs.All.{refuted}
-use Rattle.listing.specs.Columns.{lineLength, isLine}
+use borrow.Author.Tests.{eq-eqb}
+use Rattle.algebra.specs.All.{refuted, failed, passed}
+use Rattle.fields.specs.Fields.{lineLength, isLine}
 use Rattle.listing.specs.Sheet.{second, sheetN, isSheet}
 use Rattle.listing.specs.Reading.{sheet-long, sheet-first}
 use borrow.Author.Needs.{needs}
@@ -24,7 +24,7 @@ is-line-requires c κs = search needs
 returns-2 : tie.Need-returns-2
 returns-2 c =
     let text = c .before .before .before .before .args .text .now in
-    sym (refuted (isSheet text) (λ s. false≢true (sym (not-true _ (c .if2 .taken)) ∙ c .before .is-line .ensures ∙ sheet-first text s)))
+    sym (refuted (isSheet text) (λ s. false≢true (sym (failed (c .before .is-line .ensures) (c .if2 .taken)) ∙ sheet-first text s)))
 
 value-at-requires : tie.Need-value-at-requires
 value-at-requires c κs = search needs
@@ -54,7 +54,7 @@ unfolding isSheet
 returns-4 c =
     let text = c .before .before .before .before .before .before .before .args .text .now in
     let v = c .before .before .value-at in
-    let first = sym (c .before .before .before .before .is-line .ensures) ∙ not-false _ (c .before .before .before .if2 .left) in
+    let first = passed (c .before .before .before .before .is-line .ensures) (c .before .before .before .if2 .left) in
     let long = eq-eqb (length text) (second + lineLength (sheetN text)) (omega (arith, v .ensures)) in
     c .is-line2 .ensures ∙ ap (isLine text second) (v .ensures)
     ∙ sym (ap₂ (λ (a b : Bool). a && (b && isLine text second (sheetN text))) long first)

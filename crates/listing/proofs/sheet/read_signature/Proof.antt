@@ -4,7 +4,7 @@ use Prim.Native.Nat.{_≤_}
 use native.Mathlib.Omega.{arith}
 use lib.ListN.{length}
 use lib.Seq.{length-take-le}
-use Rattle.listing.specs.Columns.{isLine}
+use Rattle.fields.specs.Fields.{isLine}
 use Rattle.listing.specs.Sheet.{second}
 use Rattle.listing.specs.Reading.{sheet-long, sheet-second}
 use Rattle.listing.proofs.Sheets.{n-small, signature-read}

@@ -1,0 +1,4 @@
+pub mod Building
+pub mod Eliminating
+pub mod Insertion
+pub mod Parts

@@ -1,0 +1,24 @@
+-- `zov_block_inverse` meets its contract: the outcome as a number, and the buffer as the call leaves it.
+use mathlib.Core.Path.{ap, _∙_}
+use Rattle.wire.specs.Wire.{outcomeCode}
+use borrow.Author.Needs.{needs}
+use Rattle.capi.proofs.dyadics.zov_block_inverse.Statement.{statement}
+use Rattle.capi.proofs.dyadics.zov_block_inverse.Tie as tie
+
+inverse-requires : tie.Need-inverse-requires
+inverse-requires c κs = search needs
+
+outcome-code-requires : tie.Need-outcome-code-requires
+outcome-code-requires c κs = search needs
+
+same-length : tie.Need-same-length
+same-length c = search needs
+
+returns : tie.Need-returns
+returns c =
+    let call = c .before .before .before .inverse in
+    (c .outcome-code .ensures ∙ ap outcomeCode (call .ensures .0), call .ensures .1)
+
+pub zov-block-inverse-spec : {M : Type 1} → statement M
+zov-block-inverse-spec =
+    tie.close (tie.spec inverse-requires outcome-code-requires same-length returns)

@@ -1,0 +1,9 @@
+pub mod Decoding
+pub mod Demand
+pub mod Errors
+pub mod Exists
+pub mod Found
+pub mod Places
+pub mod Repair
+pub mod Search
+pub mod Turned

@@ -1,0 +1,105 @@
+-- `internal::write` meets its contract: 12, 11, or the row's word.
+use mathlib.Core.Path.{sym, ap, _∙_, subst}
+use Prim.Native.Nat.{ℕ}
+use native.Mathlib.Nat.{le-of-eq, le-trans}
+use native.Mathlib.Omega.{arith}
+use Rattle.algebra.specs.All.{failed, passed}
+use Rattle.basis.specs.Table.{freeCount, Form}
+use Rattle.words.specs.CodeBasis.{counted, fewer}
+use Rattle.words.proofs.Meaning.{columns-short, room}
+use Rattle.rows.proofs.Ending.{length-part, write-narrow, write-no-row, write-fits, row-carried}
+use borrow.Author.Needs.{needs}
+use Rattle.rows.proofs.internal.write.Statement.{statement}
+use Rattle.rows.proofs.internal.write.Tie as tie
+
+slice-aggregate-code-basis : tie.Need-slice-aggregate-code-basis
+slice-aggregate-code-basis c = search needs
+
+slice-aggregate-code-basis-2 : tie.Need-slice-aggregate-code-basis-2
+slice-aggregate-code-basis-2 c = search needs
+
+code-basis-requires : tie.Need-code-basis-requires
+code-basis-requires c κs =
+    let O = c .before .before .before .before .before .pre .0 in (O, room O _ _ (omega arith) (omega (arith, columns-short O)))
+
+returns : tie.Need-returns
+returns c =
+    let a = c .before .before .before .before .before .before .before .before .before .args in
+    write-narrow (a .c) (a .h .now) (a .cols .now) (c .before .before .before .code-basis .ensures .columns .number) (a .gear) (a .lamp)
+    (a .word .now) (c .if1 .taken)
+
+is-row-requires : tie.Need-is-row-requires
+is-row-requires c κs = search needs
+
+returns-2 : tie.Need-returns-2
+returns-2 c =
+    let a = c .before .before .before .before .before .before .before .before .before .before .before .args in
+    write-no-row (a .c) (a .h .now) (a .cols .now) (c .before .before .before .before .before .code-basis .ensures .columns .number) (a .gear)
+    (a .lamp) (a .word .now) (c .before .before .if1 .left)
+    (failed (c .before .is-row .ensures) (c .if2 .taken))
+
+slice-aggregate-carry-row : tie.Need-slice-aggregate-carry-row
+slice-aggregate-carry-row c = search needs
+
+slice-aggregate-carry-row-2 : tie.Need-slice-aggregate-carry-row-2
+slice-aggregate-carry-row-2 c = search needs
+
+array-borrow-prefix-message : tie.Need-array-borrow-prefix-message
+array-borrow-prefix-message c =
+    omega (
+      arith,
+      fewer (c .before .before .before .before .before .before .before .code-basis .ensures .columns),
+      columns-short
+          (c .before .before .before .before .before .before .before .before .before .before .before .before .before .pre .0),
+    )
+
+slice-aggregate-carry-row-3 : tie.Need-slice-aggregate-carry-row-3
+slice-aggregate-carry-row-3 c =
+    sym (length-part (le-trans (fewer (c .before .before .before .before .before .before .before .before .code-basis .ensures .columns))
+    (columns-short (c .before .before .before .before .before .before .before .before .before .before .before .before .before .before .pre .0))))
+
+carry-row-requires : tie.Need-carry-row-requires
+carry-row-requires c κs =
+    let s = c .before .before .before .before .before .before .before .before .before .before .before .before .before .before .before in
+    let found = c .before .before .before .before .before .before .before .before .before .code-basis in
+    let B = found .ensures in
+    let leads = found .last .1 .1 .1 .1 .0 in
+    let long = length-part (le-trans (fewer (B .columns)) (columns-short (s .pre .0))) in (
+      subst (λ (k : ℕ). Form k (found .last .1 .1 .1 .0) leads) (sym (s .pre .1)) (B .form),
+      le-of-eq (ap (λ (k : ℕ). freeCount k leads) (s .pre .1) ∙ sym (counted (B .columns)) ∙ sym long),
+    )
+
+same-length : tie.Need-same-length
+same-length c = search needs
+
+returns-3 : tie.Need-returns-3
+returns-3 c =
+    let s =
+    c .before .before .before .before .before .before .before .before .before .before .before .before .before .before .before .before .before .before .before in
+    let a = s .args in
+    let B = c .before .before .before .before .before .before .before .before .before .before .before .before .before .code-basis .ensures in
+    let carry = c .before .before .before .carry-row in
+    let long = length-part (le-trans (fewer (B .columns)) (columns-short (s .pre .0))) in
+    write-fits (a .c) (a .h .now) (a .cols .now) (B .columns .number) (a .gear) (a .lamp) (a .word .now)
+    (c .before .before .before .before .before .before .before .before .before .before .if1 .left)
+    (passed (c .before .before .before .before .before .before .before .before .before .is-row .ensures)
+    (c .before .before .before .before .before .before .before .before .if2 .left))
+    (row-carried B (a .gear) (a .lamp) long (s .pre .1) (carry .kept .1 .1 .1 .1 .1 .0) (carry .ensures))
+
+pub write-spec : {M : Type 1} → statement M
+write-spec =
+    tie.close
+    (tie.spec
+    slice-aggregate-code-basis
+    slice-aggregate-code-basis-2
+    code-basis-requires
+    returns
+    is-row-requires
+    returns-2
+    slice-aggregate-carry-row
+    slice-aggregate-carry-row-2
+    array-borrow-prefix-message
+    slice-aggregate-carry-row-3
+    carry-row-requires
+    same-length
+    returns-3)

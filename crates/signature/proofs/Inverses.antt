@@ -1,0 +1,55 @@
+-- The test of the rule works on stored inverses, and the test for equal entries on the first entry alone: why both are right.
+use mathlib.Core.Path.{_≡_, sym, ap, ap₂, _∙_}
+use mathlib.Core.Logic.{_≢_}
+use mathlib.Core.Bool.{Bool, true}
+use mathlib.Core.List.{List}
+use Prim.Native.Nat.{ℕ, _<_}
+use native.Mathlib.Omega.{arith}
+use lib.Dec.{eqb}
+use lib.ListN.{length}
+use Rattle.algebra.specs.All.{all-cong}
+use Rattle.algebra.specs.Xor.{_⊕_, xor, ⊕-eq}
+use Rattle.field.specs.Gf.{gf, gf-laws}
+use Rattle.slices.specs.Lengths.{isPower}
+use Rattle.signature.specs.Existence.{inv-injective}
+use Rattle.signature.specs.Inverses.{Entries, Inverted}
+use Rattle.signature.specs.Tests.{inverseAt, noZero, noZero-is, pairKept, affine, linear, linear-is, EqualToFirst}
+use Rattle.algebra.specs.Lists.{entryOf}
+use Rattle.signature.proofs.Scan.{index-below}
+
+-- the rule asks for f below n alone
+affine-cong : (n : ℕ) (f g : ℕ → ℕ) → isPower n ≡ true → ((i : ℕ) → i < n → f i ≡ g i) → affine n f ≡ affine n g
+unfolding affine pairKept
+affine-cong n f g t e =
+    all-cong n
+    (λ i li. all-cong n
+    (λ j lj. ap₂ eqb (e (i ⊕ j) (index-below n i j t li lj)) (ap₂ _⊕_ (ap₂ _⊕_ (e i li) (e j lj)) (e 0 (omega arith)))))
+
+module _ {m : ℕ} {h room : List ℕ} (E : Entries m h room) where
+  pub rule-tested : {r : Bool} {l : List ℕ} → Inverted m h l → r ≡ affine (length h) (entryOf l) → r ≡ linear m h
+  unfolding linear
+  rule-tested {r} {l} I q = q ∙ affine-cong (length h) (entryOf l) (inverseAt m h) (E .power) (I .are)
+
+  -- if h_i = h_j then 1/h_(i⊕j) = 1/h_0
+  pub equal-to-first : noZero h ≡ true → linear m h ≡ true → EqualToFirst h
+  equal-to-first z r i j l lj e =
+      let li : i < length h = omega arith in
+      let lk : i ⊕ j < length h = index-below (length h) i j (E .power) li lj in
+      let l0 : 0 < length h = omega arith in (
+        i ⊕ j,
+        positive (i ⊕ j) (λ q. apart (⊕-eq i j q)),
+        lk,
+        inv-injective (gf m) (gf-laws m (E .width)) (entryOf h 0) (entryOf h (i ⊕ j)) (E .elements 0 l0) (E .elements (i ⊕ j) lk)
+            (noZero-is m h .0 z 0 l0) (noZero-is m h .0 z (i ⊕ j) lk)
+            (sym (linear-is m h .0 r i j li lj ∙ ap (λ (x : ℕ). gf m .inv x ⊕ gf m .inv (entryOf h j) ⊕ gf m .inv (entryOf h 0)) e
+            ∙ cancelled (gf m .inv (entryOf h j)) (gf m .inv (entryOf h 0)))),
+      )
+    where
+      apart : i ≢ j
+      apart q = omega arith
+
+      positive : (k : ℕ) → k ≢ 0 → 0 < k
+      positive k ne = omega arith
+
+      cancelled : (x y : ℕ) → x ⊕ x ⊕ y ≡ y
+      cancelled x y = simp xor

@@ -1,0 +1,4 @@
+pub mod Scan
+pub mod Inverses
+pub mod Inverting
+pub mod Stored

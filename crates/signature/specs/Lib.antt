@@ -1,0 +1,5 @@
+pub mod Signature
+pub mod Existence
+pub mod Pigeonhole
+pub mod Tests
+pub mod Inverses
