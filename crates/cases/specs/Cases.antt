@@ -23,15 +23,16 @@ use Rattle.slices.specs.Lengths.{isPower}
 use Rattle.blocks.specs.Answers.{sizeRules, blockRules, pairRules as blockPairRules, inverseRules, pairFault as blockPairFault, inverseFault as blockInverseFault, productAnswer as blockProductAnswer, productAfter as blockProductAfter, inverseAnswer as blockInverseAnswer, inverseAfter as blockInverseAfter}
 use Rattle.dyadic.specs.Block.{blockProduct, total, quotient, blockInverse}
 use Rattle.params.specs.declared.Parameters.{Parameters}
-use Rattle.params.specs.Answers.{codeFault, checkFault, checkAnswer, supportAfter}
-use Rattle.params.specs.Code.{isLength, isRootCount, shapeRules, codeRules}
+use Rattle.params.specs.Code.{codeFault, isLength, isRootCount, shapeRules, codeRules}
+use Rattle.codes.specs.Answers.{checkFault, checkAnswer, supportAfter}
 use Rattle.signature.specs.Tests.{signatureRules, inverseAt, nonzero, noZero, pairKept, affine, linear, distinct}
 use Rattle.signature.specs.Existence.{rootAt, supportAt}
 use Rattle.algebra.specs.Lists.{sameEntry, sameList, sameList-is}
-use Rattle.words.specs.Answers.{messageRules, encodeFault, encodeAnswer, encodeAfter}
-use Rattle.words.specs.Columns.{wordOf, isSumOf, isSum, isMessageColumn, dimension, messageOf, encodingOf}
+use Rattle.messages.specs.MessageRules.{messageRules}
+use Rattle.words.specs.Answers.{encodeFault, encodeAnswer, encodeAfter}
+use Rattle.parity.specs.Columns.{wordOf, isSumOf, isSum, isMessageColumn, dimension, messageOf, encodingOf}
 use Rattle.algebra.specs.Places.{count, chosen, found}
-use Rattle.words.specs.Word.{whole, parityAt, held, syndromeAt, isCodeWord}
+use Rattle.parity.specs.Word.{whole, parityAt, held, syndromeAt, isCodeWord}
 use Rattle.slices.specs.Bits.{allBits}
 use Rattle.nearest.specs.Repair.{differs, distance, isNear, isRepairable, repairedOf}
 use Rattle.repair.specs.declared.Recovery.{Recovery}

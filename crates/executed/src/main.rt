@@ -72,7 +72,7 @@ fn show_toy() {
     let mut support: [Elem; 16] = [0; 16];
     let mut roles: [u8; 16] = [0; 16];
     let c = toy();
-    params::check(c, &TOY, &mut roots, &mut support);
+    codes::check(c, &TOY, &mut roots, &mut support);
     words::roles(c, &TOY, &mut roles);
     print(b"toy example: support");
     print_elements(&support);
@@ -115,7 +115,7 @@ fn show_width(m: u32) {
     print(b"m");
     print_number(m as u64);
     print(b":");
-    print_outcome(params::check(code(m, 2, 1, 0), &h, &mut roots, &mut support));
+    print_outcome(codes::check(code(m, 2, 1, 0), &h, &mut roots, &mut support));
 }
 
 // Whether a length of 3 is accepted, which no signature decides.
@@ -124,7 +124,7 @@ fn show_length_3() {
     let mut roots: [Elem; 3] = [0; 3];
     let mut support: [Elem; 3] = [0; 3];
     print(b"n 3:");
-    print_outcome(params::check(code(8, 3, 1, 0), &h, &mut roots, &mut support));
+    print_outcome(codes::check(code(8, 3, 1, 0), &h, &mut roots, &mut support));
 }
 
 // The same for a length of 256.
@@ -133,7 +133,7 @@ fn show_length_256() {
     let mut roots: [Elem; 256] = [0; 256];
     let mut support: [Elem; 256] = [0; 256];
     print(b"n 256:");
-    print_outcome(params::check(code(8, 256, 1, 0), &h, &mut roots, &mut support));
+    print_outcome(codes::check(code(8, 256, 1, 0), &h, &mut roots, &mut support));
 }
 
 // Whether card A with t roots is accepted.
@@ -144,7 +144,7 @@ fn show_root_count(t: u32) {
     print(b"n 4, t");
     print_number(t as u64);
     print(b":");
-    print_outcome(params::check(code(3, 4, t, 0), &h, &mut roots, &mut support));
+    print_outcome(codes::check(code(3, 4, t, 0), &h, &mut roots, &mut support));
 }
 
 // A code whose only code word is zero: k is 0.

@@ -1,19 +1,16 @@
 -- What the calls answer, and what they leave in the lent buffer, for every text and every buffer.
-use mathlib.Core.Path.{_≡_}
-use mathlib.Core.Bool.{true}
 use mathlib.Core.List.{List, [], _∷_, _++_}
-use Prim.Native.Nat.{ℕ, _≤_}
+use Prim.Native.Nat.{ℕ}
 use lib.Dec.{leb}
-use lib.ListN.{length, take}
+use lib.ListN.{length}
 use Rattle.refusals.specs.Rules.{Rule, _unless_, fault, unless-refused}
-use Rattle.params.specs.Code.{codeRules}
-use Rattle.signature.specs.Inverses.{Inverted}
 use Rattle.fields.specs.Fields.{lineText}
 use Rattle.fields.specs.Written.{over}
+use Rattle.sheets.specs.Sheet.{sheetParameters, sheetH}
+use Rattle.sheets.specs.Fault.{sheetRules, sheetFault}
 use Rattle.listing.specs.declared.Listed.{Listed}
 use Rattle.listing.specs.declared.Listed.the-variants.{Length, Refused}
-use Rattle.listing.specs.Sheet.{sheetParameters, sheetN, sheetH, isSheet}
-use Rattle.listing.specs.Listing.{listingText}
+use Rattle.lines.specs.Listing.{listingText}
 
 -- a buffer too short for a text is refused by 2
 unfoldable pub roomRules : List ℕ → List ℕ → List Rule
@@ -29,13 +26,6 @@ module _ (text out : List ℕ) where
   storedAfter = unless-refused (fault (roomRules text out)) (λ k. out) (over text out)
 
 module _ (text : List ℕ) where
-  -- 13, 01's "sheet", "which comes first of all"; then those of the code on the sheet
-  unfoldable pub sheetRules : List Rule
-  sheetRules = (13 unless isSheet text) ∷ codeRules true (sheetParameters text) (sheetH text)
-
-  unfoldable pub sheetFault : ℕ
-  sheetFault = fault sheetRules
-
   -- the listing of the code on the sheet
   unfoldable pub sheetListing : List ℕ
   sheetListing = listingText (sheetParameters text) (sheetH text)
@@ -43,7 +33,7 @@ module _ (text : List ℕ) where
   -- ---- listing
 
   unfoldable pub listingFault : List ℕ → ℕ
-  listingFault out = fault (sheetRules ++ roomRules sheetListing out)
+  listingFault out = fault (sheetRules text ++ roomRules sheetListing out)
 
   unfoldable pub listingAnswer : List ℕ → Listed
   listingAnswer out = unless-refused (listingFault out) Refused (Length (length sheetListing))
@@ -54,18 +44,10 @@ module _ (text : List ℕ) where
   -- ---- printed: "For a refused card or sheet it prints one line with the number alone, in four columns."
 
   unfoldable pub printedText : List ℕ
-  printedText = unless-refused sheetFault (λ k. lineText (k ∷ [])) sheetListing
+  printedText = unless-refused (sheetFault text) (λ k. lineText (k ∷ [])) sheetListing
 
   unfoldable pub printedAnswer : List ℕ → Listed
   printedAnswer out = storedAnswer printedText out
 
   unfoldable pub printedAfter : List ℕ → List ℕ
   printedAfter out = storedAfter printedText out
-
--- ---- a sheet that is not refused, as the calls hold it: h begins with the signature, and `inverses` with the inverses of its entries
-
-pub record SheetRead (text h inverses : List ℕ) : Type 0 where
-  pub none : sheetFault text ≡ 0
-  pub fits : sheetN text ≤ length h
-  pub signature : take (sheetN text) h ≡ sheetH text
-  pub inverted : Inverted (sheetParameters text .m) (sheetH text) inverses

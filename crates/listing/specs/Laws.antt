@@ -1,63 +1,25 @@
--- Laws of the answers: a text that is not refused is the sheet of an accepted code, what a call says that it stored is in its buffer, and room for
--- the longest listing is room for whatever is printed.
-use mathlib.Core.Path.{_≡_, refl, sym, ap, ap₂, _∙_, subst}
+-- Laws of the answers: what a call says that it stored is in its buffer, and room for the longest listing is room for whatever is printed.
+use mathlib.Core.Path.{_≡_, refl, sym, ap, _∙_, subst}
 use mathlib.Core.Bool.{Bool, true, false}
 use mathlib.Core.List.{List, [], _∷_}
-use Prim.Native.Nat.{ℕ, _+_, _-_, _*_, _≤_, _<_}
+use Prim.Native.Nat.{ℕ, _≤_, _<_}
 use native.Mathlib.Decide.{ℕ-discrete}
 use native.Mathlib.Omega.{arith}
-use lib.Dec.{T, leb}
-use lib.ListN.{length, length-append}
+use lib.Dec.{leb}
+use lib.ListN.{length}
 use borrow.Author.Tests.{leb-true, leb-false, lt-leb, le-leb}
-use Rattle.algebra.specs.Lists.{entryOf}
-use Rattle.refusals.specs.Rules.{fault-here, fault-past, fault-empty, numbered, hold, refuse, accept}
-use Rattle.params.specs.declared.Parameters.{Parameters}
-use Rattle.params.specs.Code.{Accepted, accepted, code-numbered, n-short}
-use Rattle.fields.specs.Fields.{joined, lineText, lineLength}
-use Rattle.fields.specs.Reading.{length-joined, length-line}
+use Rattle.refusals.specs.Rules.{fault-here, fault-past, fault-empty, refuse, accept}
+use Rattle.params.specs.Code.{n-short}
+use Rattle.fields.specs.Fields.{lineText}
+use Rattle.fields.specs.Reading.{length-line}
 use Rattle.fields.specs.Written.{over}
+use Rattle.sheets.specs.Sheet.{sheetParameters, sheetH}
+use Rattle.sheets.specs.Fault.{sheetFault}
+use Rattle.sheets.specs.Laws.{sheet-accepted}
+use Rattle.lines.specs.Lengths.{length-listing}
 use Rattle.listing.specs.declared.Listed.the-variants.{Length, Refused}
-use Rattle.listing.specs.Sheet.{sheetParameters, sheetH, isSheet}
-use Rattle.listing.specs.Listing.{codeLine, columnLine, linesText, listingText, listingLength, longestListing}
-use Rattle.listing.specs.Answers.{roomRules, storedAnswer, storedAfter, sheetRules, sheetFault, sheetListing, printedText, printedAnswer}
-
--- ---- the number of a text
-
-module _ (text : List ℕ) where
-  pub sheet-numbered : T (numbered (sheetRules text))
-  unfolding sheetRules
-  sheet-numbered = code-numbered true (sheetParameters text) (sheetH text)
-
-  module _ (none : sheetFault text ≡ 0) where
-    pub sheet-is : isSheet text ≡ true
-    unfolding sheetFault sheetRules
-    sheet-is = hold (sheetRules text) sheet-numbered none .0
-
-    pub sheet-accepted : Accepted (sheetParameters text) (sheetH text)
-    unfolding sheetFault sheetRules
-    sheet-accepted = accepted true (sheetParameters text) (sheetH text) (sym (fault-past 13 _ sheet-is refl) ∙ none) .1
-
--- ---- the length of a listing
-
-pub length-columns : (h support roles : List ℕ) (k : ℕ) → length (joined k (columnLine h support roles)) ≡ k * lineLength 4
-unfolding columnLine
-length-columns h support roles =
-    length-joined (lineLength 4) (columnLine h support roles) (λ j. length-line (j ∷ entryOf h j ∷ entryOf support j ∷ entryOf roles j ∷ []))
-
-module _ (c : Parameters) where
-  pub length-code : (k : ℕ) → length (codeLine c k) ≡ lineLength 6
-  unfolding codeLine
-  length-code k = length-line (c .m ∷ c .n ∷ c .t ∷ c .omega ∷ (c .n - k) ∷ k ∷ [])
-
-  pub length-lines : (k : ℕ) (h support roles : List ℕ) → length (linesText c k h support roles) ≡ listingLength (c .n)
-  unfolding linesText
-  length-lines k h support roles =
-      length-append (codeLine c k) (joined (c .n) (columnLine h support roles))
-      ∙ ap₂ (λ (x y : ℕ). x + y) (length-code k) (length-columns h support roles (c .n))
-
-  pub length-listing : (h : List ℕ) → length (listingText c h) ≡ listingLength (c .n)
-  unfolding listingText
-  length-listing h = length-lines _ h _ _
+use Rattle.lines.specs.Listing.{longestListing}
+use Rattle.listing.specs.Answers.{roomRules, storedAnswer, storedAfter, sheetListing, printedText, printedAnswer}
 
 -- ---- a text for a buffer
 

@@ -1,29 +1,18 @@
-// A code's sheet read, and its listing printed.
+// The listing of the code on a sheet, printed.
 //
 // The calls of this file take any text: what is no sheet, or the sheet of a code that is refused, is refused by its number.
-mod lines;
-mod sheet;
-
 use field::Elem;
 use fields::FIELD;
 use fields::GREATEST;
+use lines::CODE_LINE;
+use lines::COLUMN_LINE;
 use slices::LONGEST;
 ghost use mathlib.Core.Path.{_≡_};
 ghost use mathlib.Core.List.{[], _∷_};
 ghost use Rattle.fields.specs.Fields.{lineText};
-ghost use Rattle.listing.specs.Answers.{SheetRead, sheetListing, storedAnswer, storedAfter};
+ghost use Rattle.sheets.specs.Fault.{SheetRead};
+ghost use Rattle.listing.specs.Answers.{sheetListing, storedAnswer, storedAfter};
 ghost use Rattle.listing.specs.Answers.{listingAnswer, listingAfter, printedAnswer, printedAfter};
-
-// The length of the longest sheet.
-pub const LONGEST_SHEET: usize = sheet::SECOND + GREATEST as usize * FIELD + 1;
-
-// The lengths of a listing's first line and of its others.
-const CODE_LINE: usize = 6 * FIELD + 1;
-
-const COLUMN_LINE: usize = 4 * FIELD + 1;
-
-// The length of the longest listing.
-pub const LONGEST_LISTING: usize = CODE_LINE + LONGEST * COLUMN_LINE;
 
 // The length of the text that a call stored at the front of its buffer, or the number that refuses the call.
 pub enum Listed {
@@ -38,7 +27,7 @@ pub fn listing(text: &[u8], out: &mut [u8]) -> Listed
 {
     let mut h: [Elem; GREATEST as usize] = [0; GREATEST as usize];
     let mut inverses: [Elem; LONGEST] = [0; LONGEST];
-    let number = sheet::sheet_fault(text, &mut h, &mut inverses);
+    let number = sheets::sheet_fault(text, &mut h, &mut inverses);
     if number != 0 {
         return Listed::Refused(number);
     }
@@ -52,7 +41,7 @@ pub fn printed(text: &[u8], out: &mut [u8]) -> Listed
 {
     let mut h: [Elem; GREATEST as usize] = [0; GREATEST as usize];
     let mut inverses: [Elem; LONGEST] = [0; LONGEST];
-    let number = sheet::sheet_fault(text, &mut h, &mut inverses);
+    let number = sheets::sheet_fault(text, &mut h, &mut inverses);
     if number != 0 {
         return number_line(number, out);
     }
@@ -65,7 +54,7 @@ fn sheet_listing(text: &[u8], h: &[Elem], inverses: &[Elem], out: &mut [u8]) -> 
     ensures { λ r. ⌜ r ≡ storedAnswer (sheetListing (now (text .entry))) (now (out .entry)) ⌝ }
     ensures { λ _. ⌜ now (out .exit) ≡ storedAfter (sheetListing (now (text .entry))) (now (out .entry)) ⌝ }
 {
-    let c = sheet::parameters_of(text);
+    let c = sheets::parameters_of(text);
     let n = c.n as usize;
     let length = CODE_LINE + n * COLUMN_LINE;
     if out.len() < length {

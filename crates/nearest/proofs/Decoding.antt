@@ -19,14 +19,14 @@ use Rattle.slices.specs.Bits.{IsBits}
 use Rattle.slices.specs.Elements.{Elements}
 use Rattle.slices.specs.Lengths.{longest}
 use Rattle.params.specs.declared.Parameters.{Parameters}
-use Rattle.params.specs.Acceptance.{accepted-pair}
+use Rattle.params.specs.Accepted.{accepted-pair}
 use Rattle.params.specs.Code.{n-short, t-short}
 use Rattle.signature.specs.Existence.{rootAt, supportAt}
 use Rattle.signature.specs.Inverses.{Inverted}
 use Rattle.signature.specs.Tests.{added}
 use Rattle.signature.proofs.Stored.{roots-are, support-is}
-use Rattle.words.specs.Parity.{Summed, signatureSum, signature-syndrome, signature-in}
-use Rattle.words.specs.Selected.{OnColumns}
+use Rattle.parity.specs.Parity.{Summed, signatureSum, signature-syndrome, signature-in}
+use Rattle.parity.specs.Selected.{OnColumns}
 use Rattle.locator.specs.Coefficients.{halvesOf, Syndrome, Located}
 use Rattle.nearest.specs.Decoding.{rootPlace, Candidate}
 use Rattle.nearest.specs.Errors.{roots}

@@ -14,8 +14,8 @@ use Rattle.slices.specs.Bits.{IsBits}
 use Rattle.params.specs.declared.Parameters.{Parameters}
 use Rattle.signature.specs.Existence.{rootAt}
 use Rattle.signature.specs.Inverses.{Inverted}
-use Rattle.words.specs.Selected.{OnColumns}
-use Rattle.words.specs.Word.{syndromeAt}
+use Rattle.parity.specs.Selected.{OnColumns}
+use Rattle.parity.specs.Word.{syndromeAt}
 use Rattle.locator.specs.Coefficients.{halvesOf}
 use Rattle.nearest.specs.Found.{isError}
 use Rattle.nearest.specs.Turned.{turned}

@@ -18,8 +18,8 @@ use Rattle.field.specs.Gf.{gf}
 use Rattle.slices.specs.Bits.{IsBits}
 use Rattle.params.specs.declared.Parameters.{Parameters}
 use Rattle.params.specs.Code.{Accepted}
-use Rattle.words.specs.Selected.{Selected}
-use Rattle.words.specs.Word.{syndromeAt, isCodeWord}
+use Rattle.parity.specs.Selected.{Selected}
+use Rattle.parity.specs.Word.{syndromeAt, isCodeWord}
 use Rattle.nearest.specs.Errors.{F, roots}
 use Rattle.nearest.specs.Exists.{pass-exists}
 use Rattle.nearest.specs.Found.{near-is-found}

@@ -22,11 +22,11 @@ use Rattle.algebra.specs.Xor.{_⊕_, ⊕-self, ⊕-zero, zero-⊕}
 use Rattle.field.specs.Gf.{gf, gf-laws}
 use Rattle.slices.specs.Bits.{IsBits}
 use Rattle.params.specs.declared.Parameters.{Parameters}
-use Rattle.params.specs.Acceptance.{accepted-pair}
+use Rattle.params.specs.Accepted.{accepted-pair}
 use Rattle.params.specs.Code.{Accepted}
 use Rattle.signature.specs.Existence.{rootAt, supportAt}
-use Rattle.words.specs.Selected.{Selected}
-use Rattle.words.specs.Word.{parityAt, held, syndromeAt, isCodeWord}
+use Rattle.parity.specs.Selected.{Selected}
+use Rattle.parity.specs.Word.{parityAt, held, syndromeAt, isCodeWord}
 use Rattle.nearest.specs.Places.{place, place-is, place-distinct, sum-places}
 use Rattle.nearest.specs.Repair.{differs, distance}
 

@@ -22,8 +22,8 @@ use Rattle.slices.specs.Bits.{IsBits}
 use Rattle.params.specs.declared.Parameters.{Parameters}
 use Rattle.params.specs.Code.{Accepted}
 use Rattle.signature.specs.Existence.{supportAt}
-use Rattle.words.specs.Selected.{Selected}
-use Rattle.words.specs.Word.{syndromeAt, isCodeWord}
+use Rattle.parity.specs.Selected.{Selected}
+use Rattle.parity.specs.Word.{syndromeAt, isCodeWord}
 use Rattle.nearest.specs.Errors.{z, L, errorPlace, F, in-support, apart, same-place, explains}
 use Rattle.nearest.specs.Places.{place-is, place-of}
 use Rattle.nearest.specs.Repair.{differs, distance, isNear, isRepairable, repairedOf}

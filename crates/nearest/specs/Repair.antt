@@ -8,8 +8,8 @@ use Rattle.algebra.specs.All.{some}
 use Rattle.algebra.specs.Lists.{entryOf}
 use Rattle.algebra.specs.Places.{count, found}
 use Rattle.params.specs.declared.Parameters.{Parameters}
-use Rattle.words.specs.Columns.{wordOf}
-use Rattle.words.specs.Word.{isCodeWord}
+use Rattle.parity.specs.Columns.{wordOf}
+use Rattle.parity.specs.Word.{isCodeWord}
 
 -- "Two words differ in the places where their bytes are unequal."
 unfoldable pub differs : List ℕ → List ℕ → ℕ → Bool

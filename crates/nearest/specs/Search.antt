@@ -14,9 +14,9 @@ use Rattle.algebra.specs.Lists.{entryOf}
 use Rattle.algebra.specs.Places.{found-passes, count, found}
 use Rattle.slices.specs.Bits.{IsBits}
 use Rattle.params.specs.declared.Parameters.{Parameters}
-use Rattle.words.specs.Columns.{wordOf}
-use Rattle.words.specs.Encoding.{word-bits, word-number}
-use Rattle.words.specs.Word.{isCodeWord}
+use Rattle.parity.specs.Columns.{wordOf}
+use Rattle.parity.specs.Encoding.{word-bits, word-number}
+use Rattle.parity.specs.Word.{isCodeWord}
 use Rattle.nearest.specs.Repair.{differs, distance, isNear, isRepairable, repairedOf}
 
 pub distance-self : (n : ℕ) (r : List ℕ) → distance n r r ≡ 0

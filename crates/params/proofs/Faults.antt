@@ -15,10 +15,9 @@ use Rattle.field.specs.Range.{isWidth, width-is, isElement}
 use Rattle.slices.specs.Lengths.{longest, isPower, power-is}
 use Rattle.slices.specs.Elements.{allElements, elements-are}
 use Rattle.params.specs.declared.Parameters.{Parameters}
-use Rattle.params.specs.Code.{isLength, isRootCount, shapeRules, codeRules, power-short}
+use Rattle.params.specs.Code.{isLength, isRootCount, shapeRules, codeRules, power-short, codeFault}
 use Rattle.signature.specs.Tests.{signatureRules}
 use Rattle.signature.specs.Inverses.{Entries}
-use Rattle.params.specs.Answers.{codeFault}
 
 -- three rules of one number, tested together
 pub fault-of-three : (n : ℕ) (a b c : Bool) (rules : List Rule) → (a && b && c) ≡ false

@@ -1,15 +1,13 @@
 -- A call on a code: the code's rules come first, then those of the call's own.
-use mathlib.Core.Path.{_≡_, sym, ap, _∙_}
+use mathlib.Core.Path.{_≡_, sym, _∙_}
 use mathlib.Core.Logic.{_≢_}
 use mathlib.Core.Bool.{Bool, true}
 use mathlib.Core.List.{List, _++_}
 use Prim.Native.Nat.{ℕ}
-use Rattle.refusals.specs.declared.Outcome.the-variants.{Done, Refused}
-use Rattle.refusals.specs.Ending.{Ended, first-refuses, second-decides}
+use Rattle.refusals.specs.Ending.{first-refuses, second-decides}
 use Rattle.refusals.specs.Rules.{Rule, fault, unless-refused}
 use Rattle.params.specs.declared.Parameters.{Parameters}
-use Rattle.params.specs.Answers.{codeFault}
-use Rattle.params.specs.Code.{Accepted, codeRules, code-numbered, accepted}
+use Rattle.params.specs.Code.{codeFault, Accepted, codeRules, code-numbered, accepted}
 
 -- `buffers` says that the lent buffers have their lengths, and k is the number that was found for the code
 module _ (buffers : Bool) (c : Parameters) (h : List ℕ) {k : ℕ} (found : k ≡ codeFault buffers c h) where
@@ -18,12 +16,6 @@ module _ (buffers : Bool) (c : Parameters) (h : List ℕ) {k : ℕ} (found : k �
       → refused k ≡ unless-refused (fault (codeRules buffers c h ++ more)) refused value
   unfolding codeFault
   code-refuses more refused value ne = first-refuses (codeRules buffers c h) more refused value found ne
-
-  -- the same of an outcome and a buffer at once
-  pub code-refuses-both : (more : List Rule) (old value : List ℕ) → k ≢ 0
-      → (Refused k ≡ unless-refused (fault (codeRules buffers c h ++ more)) Refused Done)
-      × (old ≡ unless-refused (fault (codeRules buffers c h ++ more)) (λ i. old) value)
-  code-refuses-both more old value ne = (code-refuses more Refused Done ne, code-refuses more (λ i. old) value ne)
 
   module _ (none : k ≡ 0) where
     pub code-accepted : (buffers ≡ true) × Accepted c h
@@ -36,12 +28,3 @@ module _ (buffers : Bool) (c : Parameters) (h : List ℕ) {k : ℕ} (found : k �
     unfolding codeFault
     code-passes more refused value e =
         second-decides (codeRules buffers c h) more refused value (code-numbered buffers c h) (sym found ∙ none) e
-
-    -- the same of an outcome and a buffer at once
-    pub code-ends : {more : List Rule} {j : ℕ} {old value new : List ℕ} → Ended j more old value new
-        → (unless-refused j Refused Done ≡ unless-refused (fault (codeRules buffers c h ++ more)) Refused Done)
-        × (new ≡ unless-refused (fault (codeRules buffers c h ++ more)) (λ i. old) value)
-    code-ends {more} {j} {old} {value} E = (
-      code-passes more Refused Done (ap (λ (i : ℕ). unless-refused i Refused Done) (E .number)),
-      code-passes more (λ i. old) value (E .buffer),
-    )

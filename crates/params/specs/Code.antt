@@ -40,6 +40,10 @@ shapeRules buffers c h =
 unfoldable pub codeRules : Bool → Parameters → List ℕ → List Rule
 codeRules buffers c h = shapeRules buffers c h ++ (signatureRules (c .m) h ++ (7 unless isRootCount (c .n) (c .t)) ∷ [])
 
+-- the number that refuses a code, or 0
+unfoldable pub codeFault : Bool → Parameters → List ℕ → ℕ
+codeFault buffers c h = fault (codeRules buffers c h)
+
 -- what holds of m, n, t and h where 1, 2, 3 and 7 do not apply
 pub record Limits (c : Parameters) (h : List ℕ) : Type 0 where
   pub width : Width (c .m)

@@ -1,6 +1,3 @@
 pub mod Code
-pub mod Same
-pub mod Answers
-pub mod Acceptance
-pub mod Agreement
+pub mod Accepted
 pub mod Calls

@@ -1,14 +1,17 @@
-// The parameters of a code (01's card): width m, length n, number t of roots, offset ω and signature h.
-//
-// The calls of this file take any input: what breaks a rule is refused by its number. What other crates build on stands in `internal`.
-pub mod internal;
-
+// The parameters of a code (01's card): width m, length n, number t of roots, offset ω and signature h; and their tests, for every call that is
+// handed some: the number that refuses them, or 0.
 use field::Elem;
-use refusals::Outcome;
+use field::internal::is_element;
+use field::internal::is_width;
+use signature::signature_fault;
 use slices::LONGEST;
 ghost use mathlib.Core.Path.{_≡_};
-ghost use Rattle.algebra.specs.Lists.{sameList};
-ghost use Rattle.params.specs.Answers.{checkAnswer, rootsAfter, supportAfter, lowest, sameAnswer};
+ghost use Prim.Native.Nat.{_≤_};
+ghost use lib.ListN.{length};
+ghost use Rattle.refusals.specs.Rules.{fault};
+ghost use Rattle.slices.specs.Lengths.{longest};
+ghost use Rattle.params.specs.Code.{isLength, isRootCount, shapeRules, codeFault};
+ghost use Rattle.signature.specs.Inverses.{Inverted};
 
 // The numbers of a code. Its signature goes beside them, as a slice.
 pub struct Parameters {
@@ -18,75 +21,61 @@ pub struct Parameters {
     pub omega: u32,
 }
 
-// Whether two codes are the same.
-pub enum Sameness {
-    Same,
-    Different,
-    Refused(u32),
-}
-
-// Whether a code is accepted. Where it is, `roots` holds z_i = 1/h_i + ω and `support` L_j = 1/h_j + 1/h_0 + ω, n of each.
-pub fn check(c: Parameters, h: &[Elem], roots: &mut [Elem], support: &mut [Elem]) -> Outcome
-    ensures { λ r. ⌜ r ≡ checkAnswer c (now (h .entry)) (now (roots .entry)) (now (support .entry)) ⌝ }
-    ensures { λ _. ⌜ now (roots .exit) ≡ rootsAfter c (now (h .entry)) (now (roots .entry)) (now (support .entry)) ⌝ }
-    ensures { λ _. ⌜ now (support .exit) ≡ supportAfter c (now (h .entry)) (now (roots .entry)) (now (support .entry)) ⌝ }
+// The number for a code, where `buffers` says whether the call's lent buffers have their lengths.
+pub fn code_fault(c: Parameters, h: &[Elem], buffers: bool) -> u32
+    ensures { λ r. ⌜ r ≡ codeFault buffers c (now (h .entry)) ⌝ }
 {
     let mut inverses: [Elem; LONGEST] = [0; LONGEST];
-    let n = c.n as usize;
-    let lent = (roots.len() == n) & (support.len() == n);
-    let number = internal::code_fault_inverses(c, h, lent, &mut inverses);
+    code_fault_inverses(c, h, buffers, &mut inverses)
+}
+
+// The same, and where the number is 0 `inverses` begins with the inverses of the entries.
+pub fn code_fault_inverses(c: Parameters, h: &[Elem], buffers: bool, inverses: &mut [Elem]) -> u32
+    requires { ⌜ longest ≤ length (now inverses) ⌝ }
+    ensures { λ r. ⌜ r ≡ codeFault buffers c (now (h .entry)) ⌝ }
+    ensures { λ r. ⌜ (r ≡ 0 → Inverted (c .m) (now (h .entry)) (now (inverses .exit))) ⌝ }
+{
+    let number = shape_fault(c, h, buffers);
     if number != 0 {
-        return Outcome::Refused(number);
+        return number;
     }
-    let omega = c.omega as Elem;
-    signature::store_roots(&inverses, omega, roots);
-    signature::store_support(&inverses, omega, support);
-    Outcome::Done
-}
-
-// Whether m, n, t and h agree. The offsets are tested as those of any code, and not compared.
-pub fn same(c1: Parameters, h1: &[Elem], c2: Parameters, h2: &[Elem]) -> Sameness
-    ensures { λ r. ⌜ r ≡ sameAnswer c1 (now (h1 .entry)) c2 (now (h2 .entry)) ⌝ }
-{
-    let number = lower(
-        internal::code_fault(c1, h1, true),
-        internal::code_fault(c2, h2, true),
-    );
+    let number = signature_fault(c.m, h, inverses);
     if number != 0 {
-        return Sameness::Refused(number);
+        return number;
     }
-    if (c1.m == c2.m) & (c1.n == c2.n) & (c1.t == c2.t) & same_entries(h1, h2) {
-        return Sameness::Same;
+    if !is_root_count(c.n, c.t) {
+        return refusals::ROOT_COUNT;
     }
-    Sameness::Different
+    0
 }
 
-// The lower of two numbers of 01's table, where 0 is none.
-fn lower(a: u32, b: u32) -> u32
-    ensures { λ r. ⌜ r ≡ lowest a b ⌝ }
+fn is_length(n: u32) -> bool
+    ensures { λ r. ⌜ r ≡ isLength n ⌝ }
 {
-    if a == 0 {
-        return b;
-    }
-    if b == 0 {
-        return a;
-    }
-    if b < a {
-        return b;
-    }
-    a
+    (2 <= n) & slices::is_power(n as usize)
 }
 
-fn same_entries(a: &[Elem], b: &[Elem]) -> bool
-    ensures { λ r. ⌜ r ≡ sameList (now (a .entry)) (now (b .entry)) ⌝ }
+fn is_root_count(n: u32, t: u32) -> bool
+    ensures { λ r. ⌜ r ≡ isRootCount n t ⌝ }
 {
-    if a.len() != b.len() {
-        return false;
+    slices::is_power(t as usize) & (t <= n / 2)
+}
+
+// 1 to 3: numbers and lengths.
+fn shape_fault(c: Parameters, h: &[Elem], buffers: bool) -> u32
+    ensures { λ r. ⌜ r ≡ fault (shapeRules buffers c (now (h .entry))) ⌝ }
+{
+    if !is_width(c.m) {
+        return refusals::WIDTH;
     }
-    for i in 0..a.len() {
-        if a[i] != b[i] {
-            return false;
-        }
+    if !(is_length(c.n) & (h.len() == c.n as usize) & buffers) {
+        return refusals::LENGTH;
     }
-    true
+    if !slices::all_elements(c.m, h) {
+        return refusals::RANGE;
+    }
+    if !is_element(c.m, c.omega) {
+        return refusals::RANGE;
+    }
+    0
 }

@@ -10,8 +10,8 @@ use Rattle.algebra.specs.Places.{count-le}
 use Rattle.refusals.specs.Rules.{_unless_, fault, unless-refused, fault-none, fault-here, fault-past, refuse, accept}
 use Rattle.slices.specs.Bits.{IsBits, allBits, bits-are}
 use Rattle.params.specs.declared.Parameters.{Parameters}
-use Rattle.words.specs.Selected.{OnColumns}
-use Rattle.words.specs.Word.{isCodeWord}
+use Rattle.parity.specs.Selected.{OnColumns}
+use Rattle.parity.specs.Word.{isCodeWord}
 use Rattle.nearest.specs.Decoding.{Candidate}
 use Rattle.nearest.specs.Demand.{near-unique, repaired-code-word, repaired-within}
 use Rattle.nearest.specs.Found.{isError, repaired-found, not-found}

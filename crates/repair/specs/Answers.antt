@@ -10,7 +10,7 @@ use Rattle.refusals.specs.Rules.{Rule, _unless_, fault, unless-refused}
 use Rattle.slices.specs.Bits.{allBits}
 use Rattle.params.specs.declared.Parameters.{Parameters}
 use Rattle.params.specs.Code.{codeRules}
-use Rattle.words.specs.Word.{whole}
+use Rattle.parity.specs.Word.{whole}
 use Rattle.nearest.specs.Repair.{distance, isRepairable, repairedOf}
 use Rattle.repair.specs.declared.Recovery.{Recovery}
 use Rattle.repair.specs.declared.Recovery.the-variants.{Repaired, Refused}

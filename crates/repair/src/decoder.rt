@@ -11,7 +11,7 @@ use slices::copy_bits;
 ghost use mathlib.Core.Path.{_≡_};
 ghost use lib.ListN.{length};
 ghost use Rattle.signature.specs.Inverses.{Inverted};
-ghost use Rattle.words.specs.Selected.{OnColumns};
+ghost use Rattle.parity.specs.Selected.{OnColumns};
 ghost use Rattle.repair.specs.Answers.{wordAnswer, wordAfter};
 ghost use Rattle.repair.specs.Decoding.{Decoded};
 

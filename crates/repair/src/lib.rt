@@ -6,9 +6,8 @@ pub mod decoder;
 use basis::Column;
 use field::Elem;
 use params::Parameters;
-use params::internal::code_fault_inverses;
+use parity::whole_code_inverses;
 use slices::LONGEST;
-use words::internal::number_columns;
 ghost use mathlib.Core.Path.{_≡_};
 ghost use Rattle.repair.specs.Answers.{repairAnswer, repairAfter};
 
@@ -26,11 +25,10 @@ pub fn repair(c: Parameters, h: &[Elem], received: &[u8], repaired: &mut [u8]) -
     let mut inverses: [Elem; LONGEST] = [0; LONGEST];
     let n = c.n as usize;
     let lent = (received.len() == n) & (repaired.len() == n);
-    let number = code_fault_inverses(c, h, lent, &mut inverses);
+    let mut columns: [Column; LONGEST] = [0; LONGEST];
+    let number = whole_code_inverses(c, h, lent, &mut inverses, &mut columns);
     if number != 0 {
         return Recovery::Refused(number);
     }
-    let mut columns: [Column; LONGEST] = [0; LONGEST];
-    number_columns(n, &mut columns);
     decoder::repair(c, h, &inverses, &columns[..n], received, repaired)
 }

@@ -14,8 +14,8 @@ use Rattle.refusals.specs.Rules.{_unless_, fault, unless-refused, fault-here, f
 use Rattle.slices.specs.Lengths.{longest}
 use Rattle.params.specs.declared.Parameters.{Parameters}
 use Rattle.basis.specs.Table.{Carried}
-use Rattle.words.specs.CodeBasis.{CodeBasis}
-use Rattle.words.specs.Columns.{dimension, messageOf, encodingOf}
+use Rattle.messages.specs.CodeBasis.{CodeBasis}
+use Rattle.parity.specs.Columns.{dimension, messageOf, encodingOf}
 use Rattle.nearest.specs.Repair.{repairedOf}
 use Rattle.repair.specs.declared.Recovery.{Recovery}
 use Rattle.repair.specs.declared.Recovery.the-variants.{Repaired, Refused as NotRepaired}

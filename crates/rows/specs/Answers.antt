@@ -9,8 +9,8 @@ use Rattle.refusals.specs.declared.Outcome.{Outcome}
 use Rattle.refusals.specs.declared.Outcome.the-variants.{Done, Refused}
 use Rattle.params.specs.declared.Parameters.{Parameters}
 use Rattle.params.specs.Code.{codeRules}
-use Rattle.words.specs.Columns.{dimension, messageOf, encodingOf}
-use Rattle.words.specs.Word.{whole}
+use Rattle.parity.specs.Columns.{dimension, messageOf, encodingOf}
+use Rattle.parity.specs.Word.{whole}
 use Rattle.nearest.specs.Repair.{repairedOf}
 use Rattle.repair.specs.Answers.{wordRules, turnedCount}
 use Rattle.gears.specs.Rows.{isRow, rowBits, rowMessage, gearIn, lampIn, isRowMessage, rowOf}

@@ -17,11 +17,10 @@ use Rattle.refusals.specs.declared.Outcome.the-variants.{Done, Refused}
 use Rattle.slices.specs.Bits.{Bits, allBits, IsBits, received-bits, all-bits}
 use Rattle.params.specs.declared.Parameters.{Parameters}
 use Rattle.params.specs.Code.{Accepted, codeRules, code-numbered, accepts, accepted}
-use Rattle.words.specs.Answers.{messageLength}
-use Rattle.words.specs.Columns.{isMessageColumn, dimension, messageOf, encodingOf}
-use Rattle.words.specs.Encoding.{encoding-carries, encoding-only}
-use Rattle.words.specs.Selected.{Selected, length-whole, whole-selected}
-use Rattle.words.specs.Word.{whole}
+use Rattle.parity.specs.Columns.{isMessageColumn, dimension, messageOf, encodingOf, messageLength}
+use Rattle.parity.specs.Encoding.{encoding-carries, encoding-only}
+use Rattle.parity.specs.Selected.{Selected, length-whole, whole-selected}
+use Rattle.parity.specs.Word.{whole}
 use Rattle.nearest.specs.Demand.{CodeWord, near-unique, repaired-code-word, repaired-within}
 use Rattle.nearest.specs.Repair.{distance, isRepairable, repairedOf}
 use Rattle.nearest.specs.Search.{distance-self, near as near-word, repairable as near-repairable}

@@ -8,12 +8,11 @@ use basis::Column;
 use field::Elem;
 use gears::Row;
 use params::Parameters;
-use params::internal::code_fault;
-use params::internal::code_fault_inverses;
+use parity::whole_code;
+use parity::whole_code_inverses;
 use refusals::Outcome;
 use refusals::ended;
 use slices::LONGEST;
-use words::internal::number_columns;
 ghost use mathlib.Core.Path.{_≡_};
 ghost use Rattle.rows.specs.Answers.{writeAnswer, writeAfter, readAnswer, readAfter};
 
@@ -29,12 +28,11 @@ pub fn write_row(c: Parameters, h: &[Elem], gear: u32, lamp: u32, word: &mut [u8
     ensures { λ _. ⌜ now (word .exit) ≡ writeAfter c (now (h .entry)) gear lamp (now (word .entry)) ⌝ }
 {
     let n = c.n as usize;
-    let number = code_fault(c, h, word.len() == n);
+    let mut columns: [Column; LONGEST] = [0; LONGEST];
+    let number = whole_code(c, h, word.len() == n, &mut columns);
     if number != 0 {
         return Outcome::Refused(number);
     }
-    let mut columns: [Column; LONGEST] = [0; LONGEST];
-    number_columns(n, &mut columns);
     ended(internal::write(c, h, &columns[..n], gear, lamp, word))
 }
 
@@ -46,11 +44,10 @@ pub fn read_row(c: Parameters, h: &[Elem], received: &[u8], repaired: &mut [u8])
     let mut inverses: [Elem; LONGEST] = [0; LONGEST];
     let n = c.n as usize;
     let lent = (received.len() == n) & (repaired.len() == n);
-    let number = code_fault_inverses(c, h, lent, &mut inverses);
+    let mut columns: [Column; LONGEST] = [0; LONGEST];
+    let number = whole_code_inverses(c, h, lent, &mut inverses, &mut columns);
     if number != 0 {
         return Reading::Refused(number);
     }
-    let mut columns: [Column; LONGEST] = [0; LONGEST];
-    number_columns(n, &mut columns);
     internal::read(c, h, &inverses, &columns[..n], received, repaired)
 }

@@ -28,8 +28,8 @@ fn skip_rest() {
 
 fn main() {
     // One byte more than the longest sheet has: a text that fills the buffer is no sheet, whatever follows.
-    let mut text = [0u8; listing::LONGEST_SHEET + 1];
-    let mut out = [0u8; listing::LONGEST_LISTING];
+    let mut text = [0u8; sheets::LONGEST_SHEET + 1];
+    let mut out = [0u8; lines::LONGEST_LISTING];
     let length = io::read_full(STDIN_FILENO, &mut text);
     print(&text[..length], &mut out);
     if length == text.len() {

@@ -6,8 +6,8 @@ use Rattle.field.specs.declared.Answer.the-variants.{Element, Refused as NoElem
 use Rattle.refusals.specs.declared.Outcome.{Outcome}
 use Rattle.refusals.specs.declared.Outcome.the-variants.{Done, Refused}
 use Rattle.params.specs.declared.Parameters.{Parameters}
-use Rattle.params.specs.declared.Sameness.{Sameness}
-use Rattle.params.specs.declared.Sameness.the-variants.{Same, Different, Refused as NotCompared}
+use Rattle.codes.specs.declared.Sameness.{Sameness}
+use Rattle.codes.specs.declared.Sameness.the-variants.{Same, Different, Refused as NotCompared}
 use Rattle.words.specs.declared.Counted.{Counted}
 use Rattle.words.specs.declared.Counted.the-variants.{Count, Refused as NotCounted}
 use Rattle.repair.specs.declared.Recovery.{Recovery}

@@ -1,8 +1,8 @@
 // Answers as numbers, since no enum crosses into C: the value, or minus the refusal's number.
+use codes::Sameness;
 use field::Answer;
 use gears::Lamp;
 use listing::Listed;
-use params::Sameness;
 use refusals::Outcome;
 use repair::Recovery;
 use rows::Reading;

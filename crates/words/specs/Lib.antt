@@ -1,10 +1,1 @@
-pub mod Word
-pub mod Columns
-pub mod Selected
-pub mod Parity
-pub mod Systematic
-pub mod Encoding
-pub mod Offset
-pub mod Zero
-pub mod CodeBasis
 pub mod Answers

@@ -1,61 +1,25 @@
 // What the calls on words are made of, for an accepted code and a selection of its columns: place j of a word is column cols_j.
 //
 // A function that answers a number answers the one that refuses the call, or 0, and writes its buffer only then.
-use crate::syndromes;
 use basis::Column;
-use basis::elimination::parity_basis;
 use basis::packed::ROW;
 use field::Elem;
+use messages::code_basis;
+use messages::message_columns;
+use messages::message_fault;
 use params::Parameters;
+use parity::syndromes;
 use slices::LONGEST;
 use slices::all_bits;
 ghost use mathlib.Core.Path.{_≡_};
-ghost use Prim.Native.Nat.{_≤_};
-ghost use lib.ListN.{length, take};
-ghost use Rattle.refusals.specs.Rules.{fault};
+ghost use lib.ListN.{length};
 ghost use Rattle.refusals.specs.Ending.{Ended};
-ghost use Rattle.slices.specs.Lengths.{longest};
 ghost use Rattle.slices.specs.Bits.{allBits};
-ghost use Rattle.basis.specs.Table.{Room};
-ghost use Rattle.words.specs.Word.{whole, syndromeOf};
-ghost use Rattle.words.specs.Columns.{rolesOf, dimension, messageOf, encodingOf};
-ghost use Rattle.words.specs.Selected.{OnColumns};
-ghost use Rattle.words.specs.CodeBasis.{MessageColumns, CodeBasis};
-ghost use Rattle.words.specs.Answers.{messageRules, bitRules};
-
-// The columns of a whole code of length n: place j is column j.
-pub fn number_columns(n: usize, columns: &mut [Column])
-    requires { ⌜ (n ≤ length (now columns)) × (n ≤ longest) ⌝ }
-    ensures { λ _. ⌜ take n (now (columns .exit)) ≡ whole n ⌝ }
-{
-    for j in 0..n {
-        columns[j] = j as Column;
-    }
-}
-
-// The basis of the code in `rows` and `leads`, and k, the number of message columns.
-pub fn code_basis(
-    c: Parameters,
-    h: &[Elem],
-    cols: &[Column],
-    rows: &mut [u64],
-    leads: &mut [u8],
-) -> usize
-    requires { ⌜ OnColumns c (now h) (now cols) × Room (length (now cols)) (now rows) (now leads) ⌝ }
-    ensures { λ r. ⌜ CodeBasis c (now (h .entry)) (now (cols .entry)) (now (rows .exit)) (now (leads .exit)) r ⌝ }
-{
-    let t = c.t as usize;
-    cols.len() - parity_basis(c.m, t, h, cols, rows, leads)
-}
-
-// The message columns, which are the free places of `leads`, and k.
-pub fn message_columns(c: Parameters, h: &[Elem], cols: &[Column], leads: &mut [u8]) -> usize
-    requires { ⌜ OnColumns c (now h) (now cols) × (length (now cols) ≤ length (now leads)) ⌝ }
-    ensures { λ r. ⌜ MessageColumns c (now (h .entry)) (now (cols .entry)) (now (leads .exit)) r ⌝ }
-{
-    let mut rows: [u64; LONGEST * ROW] = [0; LONGEST * ROW];
-    code_basis(c, h, cols, &mut rows, leads)
-}
+ghost use Rattle.parity.specs.Word.{syndromeOf};
+ghost use Rattle.parity.specs.Columns.{rolesOf, dimension, messageOf, encodingOf};
+ghost use Rattle.parity.specs.Selected.{OnColumns};
+ghost use Rattle.messages.specs.MessageRules.{messageRules};
+ghost use Rattle.words.specs.Answers.{bitRules};
 
 // 1 for each message column and 0 for each check column into `out`, and k.
 pub fn roles(c: Parameters, h: &[Elem], cols: &[Column], out: &mut [u8]) -> u32
@@ -116,17 +80,4 @@ pub fn message(c: Parameters, h: &[Elem], cols: &[Column], word: &[u8], message:
         systematic::take_out(word, &leads, message);
     }
     number
-}
-
-// The number for a message of the given length where k is due, and where `read` is to hold bits.
-fn message_fault(k: usize, long: usize, read: &[u8]) -> u32
-    ensures { λ r. ⌜ r ≡ fault (messageRules k long (allBits (now (read .entry)))) ⌝ }
-{
-    if long != k {
-        return refusals::LENGTH;
-    }
-    if !all_bits(read) {
-        return refusals::BIT;
-    }
-    0
 }

@@ -1,15 +1,13 @@
 // Words of an accepted code: syndrome, message and check columns, encoding, and the message of a word.
 //
-// The calls of this file take any input, for the whole code. What they are made of stands in `internal` and `syndromes`, for an accepted code and any
-// selection of its columns.
+// The calls of this file take any input, for the whole code. What they are made of stands in `internal`, for an accepted code and any selection
+// of its columns.
 pub mod internal;
-pub mod syndromes;
 
 use basis::Column;
 use field::Elem;
-use internal::number_columns;
 use params::Parameters;
-use params::internal::code_fault;
+use parity::whole_code;
 use refusals::Outcome;
 use refusals::ended;
 use slices::LONGEST;
@@ -28,12 +26,11 @@ pub fn roles(c: Parameters, h: &[Elem], out: &mut [u8]) -> Counted
     ensures { λ _. ⌜ now (out .exit) ≡ rolesAfter c (now (h .entry)) (now (out .entry)) ⌝ }
 {
     let n = c.n as usize;
-    let number = code_fault(c, h, out.len() == n);
+    let mut columns: [Column; LONGEST] = [0; LONGEST];
+    let number = whole_code(c, h, out.len() == n, &mut columns);
     if number != 0 {
         return Counted::Refused(number);
     }
-    let mut columns: [Column; LONGEST] = [0; LONGEST];
-    number_columns(n, &mut columns);
     Counted::Count(internal::roles(c, h, &columns[..n], out))
 }
 
@@ -44,12 +41,11 @@ pub fn syndrome(c: Parameters, h: &[Elem], word: &[u8], out: &mut [Elem]) -> Out
 {
     let n = c.n as usize;
     let t = c.t as usize;
-    let number = code_fault(c, h, (word.len() == n) & (out.len() == t));
+    let mut columns: [Column; LONGEST] = [0; LONGEST];
+    let number = whole_code(c, h, (word.len() == n) & (out.len() == t), &mut columns);
     if number != 0 {
         return Outcome::Refused(number);
     }
-    let mut columns: [Column; LONGEST] = [0; LONGEST];
-    number_columns(n, &mut columns);
     ended(internal::syndrome(c, h, &columns[..n], word, out))
 }
 
@@ -59,12 +55,11 @@ pub fn encode(c: Parameters, h: &[Elem], message: &[u8], word: &mut [u8]) -> Out
     ensures { λ _. ⌜ now (word .exit) ≡ encodeAfter c (now (h .entry)) (now (message .entry)) (now (word .entry)) ⌝ }
 {
     let n = c.n as usize;
-    let number = code_fault(c, h, word.len() == n);
+    let mut columns: [Column; LONGEST] = [0; LONGEST];
+    let number = whole_code(c, h, word.len() == n, &mut columns);
     if number != 0 {
         return Outcome::Refused(number);
     }
-    let mut columns: [Column; LONGEST] = [0; LONGEST];
-    number_columns(n, &mut columns);
     ended(internal::encode(c, h, &columns[..n], message, word))
 }
 
@@ -74,11 +69,10 @@ pub fn message(c: Parameters, h: &[Elem], word: &[u8], message: &mut [u8]) -> Ou
     ensures { λ _. ⌜ now (message .exit) ≡ messageAfter c (now (h .entry)) (now (word .entry)) (now (message .entry)) ⌝ }
 {
     let n = c.n as usize;
-    let number = code_fault(c, h, word.len() == n);
+    let mut columns: [Column; LONGEST] = [0; LONGEST];
+    let number = whole_code(c, h, word.len() == n, &mut columns);
     if number != 0 {
         return Outcome::Refused(number);
     }
-    let mut columns: [Column; LONGEST] = [0; LONGEST];
-    number_columns(n, &mut columns);
     ended(internal::message(c, h, &columns[..n], word, message))
 }

@@ -2,9 +2,10 @@
 use mathlib.Core.Path.{sym, _∙_}
 use Rattle.refusals.specs.Ending.{first-refuses, second-decides}
 use Rattle.listing.specs.declared.Listed.the-variants.{Refused}
-use Rattle.listing.specs.Answers.{roomRules, storedAnswer, storedAfter, sheetRules, sheetFault, sheetListing}
+use Rattle.sheets.specs.Fault.{sheetRules, sheetFault}
+use Rattle.sheets.specs.Laws.{sheet-numbered}
+use Rattle.listing.specs.Answers.{roomRules, storedAnswer, storedAfter, sheetListing}
 use Rattle.listing.specs.Answers.{listingFault, listingAnswer, listingAfter}
-use Rattle.listing.specs.Laws.{sheet-numbered}
 use borrow.Author.Needs.{needs}
 use Rattle.listing.proofs.listing.Statement.{statement}
 use Rattle.listing.proofs.listing.Tie as tie

@@ -6,10 +6,12 @@ use native.Mathlib.Omega.{arith}
 use lib.ListN.{length}
 use lib.Seq.{length-take-le}
 use Rattle.fields.specs.Written.{over}
-use Rattle.listing.specs.Reading.{sheet-long}
+use Rattle.sheets.specs.Laws.{sheet-is}
+use Rattle.sheets.specs.Reading.{sheet-long}
+use Rattle.sheets.proofs.Held.{n-small, n-is, code-held}
 use Rattle.listing.specs.Answers.{sheetListing}
-use Rattle.listing.specs.Laws.{sheet-is, stored-short, stored-done}
-use Rattle.listing.proofs.Sheets.{n-small, n-is, code-held, listing-on-sheet, length-sheet-listing}
+use Rattle.listing.specs.Laws.{stored-short, stored-done}
+use Rattle.listing.proofs.Sheets.{listing-on-sheet, length-sheet-listing}
 use borrow.Author.Needs.{needs}
 use Rattle.listing.proofs.sheet_listing.Statement.{statement}
 use Rattle.listing.proofs.sheet_listing.Tie as tie

@@ -6,7 +6,7 @@ use native.Mathlib.Omega.{arith}
 use Rattle.params.specs.Code.{t-short}
 use Rattle.params.proofs.Stored.{offset-fits}
 use Rattle.basis.specs.Table.{Reaches}
-use Rattle.words.specs.Parity.{reaches}
+use Rattle.parity.specs.Parity.{reaches}
 use Rattle.nearest.proofs.Decoding.{summed, root-points, support-in, column-in, roots-stored, support-stored}
 use Rattle.nearest.proofs.Decoding.{syndrome-stored, syndrome-fits, candidate-found}
 use borrow.Author.Needs.{needs}

@@ -5,8 +5,8 @@ use native.Mathlib.Omega.{arith}
 use borrow.Author.Tests.{eq-eqb, ne-eqb}
 use lib.Dec.{eqb}
 use Rattle.algebra.specs.All.{Scanning, scanning-start, scanning-turn, scanning-fails, scanning-end}
-use Rattle.words.specs.Parity.{reaches, signature-syndrome}
-use Rattle.words.specs.Word.{syndromeAt, isCodeWord}
+use Rattle.parity.specs.Parity.{reaches, signature-syndrome}
+use Rattle.parity.specs.Word.{syndromeAt, isCodeWord}
 use Rattle.nearest.proofs.Decoding.{summed}
 use borrow.Author.Needs.{needs}
 use Rattle.nearest.proofs.is_code_word.Statement.{statement}

@@ -4,7 +4,7 @@ use mathlib.Core.Logic.{inl, inr}
 use native.Mathlib.Omega.{arith}
 use Rattle.algebra.specs.All.{failed, passed}
 use Rattle.slices.specs.Bits.{received-bits}
-use Rattle.words.proofs.Meaning.{columns-short}
+use Rattle.parity.specs.Selected.{columns-short}
 use Rattle.repair.proofs.Decoding.{no-word, code-word-decoded, candidate-refused, candidate-decoded, candidate-bits, candidate-few}
 use borrow.Author.Needs.{needs}
 use Rattle.repair.proofs.decoder.decode.Statement.{statement}

@@ -5,7 +5,7 @@ use lib.ListN.{length, drop, replicate}
 use lib.Seq.{length-take-le, take-at}
 use Rattle.algebra.specs.Lists.{front-long}
 use Rattle.slices.specs.Lengths.{longest}
-use Rattle.words.proofs.Meaning.{columns-short}
+use Rattle.parity.specs.Selected.{columns-short}
 use Rattle.repair.specs.declared.Recovery.{Recovery}
 use Rattle.repair.specs.Decoding.{Decoded}
 use Rattle.repair.proofs.Decoding.{repaired-copied, refused-left}

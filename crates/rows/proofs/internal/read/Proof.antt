@@ -9,8 +9,8 @@ use lib.Seq.{take-at}
 use Rattle.algebra.specs.Lists.{entryOf, front-long}
 use Rattle.algebra.specs.Places.{chosen}
 use Rattle.basis.specs.Table.{freeAt, freeCount}
-use Rattle.words.specs.CodeBasis.{counted, fewer, message-is}
-use Rattle.words.proofs.Meaning.{columns-short}
+use Rattle.messages.specs.CodeBasis.{counted, fewer, message-is}
+use Rattle.parity.specs.Selected.{columns-short}
 use Rattle.gears.specs.Rows.{rowBits}
 use Rattle.rows.specs.declared.Reading.the-variants.{Refused}
 use Rattle.rows.specs.Parts.{carriedAnswer, carriedAfter}

@@ -5,8 +5,9 @@ use native.Mathlib.Nat.{le-of-eq, le-trans}
 use native.Mathlib.Omega.{arith}
 use Rattle.algebra.specs.All.{failed, passed}
 use Rattle.basis.specs.Table.{freeCount, Form}
-use Rattle.words.specs.CodeBasis.{counted, fewer}
-use Rattle.words.proofs.Meaning.{columns-short, room}
+use Rattle.messages.specs.CodeBasis.{counted, fewer}
+use Rattle.parity.specs.Selected.{columns-short}
+use Rattle.messages.proofs.Meaning.{room}
 use Rattle.rows.proofs.Ending.{length-part, write-narrow, write-no-row, write-fits, row-carried}
 use borrow.Author.Needs.{needs}
 use Rattle.rows.proofs.internal.write.Statement.{statement}

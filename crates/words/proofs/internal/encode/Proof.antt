@@ -7,9 +7,10 @@ use lib.ListN.{length}
 use Rattle.refusals.specs.Ending.{ended-refused, ended-done}
 use Rattle.slices.specs.Bits.{allBits}
 use Rattle.basis.specs.Table.{freeCount, Form, Carried}
-use Rattle.words.specs.Columns.{encodingOf}
-use Rattle.words.specs.CodeBasis.{counted}
-use Rattle.words.proofs.Meaning.{columns-short, room, message-fits, message-due}
+use Rattle.parity.specs.Columns.{encodingOf}
+use Rattle.messages.specs.CodeBasis.{counted}
+use Rattle.parity.specs.Selected.{columns-short}
+use Rattle.messages.proofs.Meaning.{room, message-fits, message-due}
 use borrow.Author.Needs.{needs}
 use Rattle.words.proofs.internal.encode.Statement.{statement}
 use Rattle.words.proofs.internal.encode.Tie as tie

@@ -8,9 +8,10 @@ use Rattle.algebra.specs.Places.{chosen}
 use Rattle.refusals.specs.Ending.{ended-refused, ended-done}
 use Rattle.slices.specs.Bits.{allBits}
 use Rattle.basis.specs.Table.{freeAt, freeCount}
-use Rattle.words.specs.Columns.{messageOf}
-use Rattle.words.specs.CodeBasis.{message-is, counted}
-use Rattle.words.proofs.Meaning.{columns-short, message-fits, message-due}
+use Rattle.parity.specs.Columns.{messageOf}
+use Rattle.messages.specs.CodeBasis.{message-is, counted}
+use Rattle.parity.specs.Selected.{columns-short}
+use Rattle.messages.proofs.Meaning.{message-fits, message-due}
 use borrow.Author.Needs.{needs}
 use Rattle.words.proofs.internal.message.Statement.{statement}
 use Rattle.words.proofs.internal.message.Tie as tie

@@ -5,8 +5,8 @@ use native.Mathlib.Omega.{arith}
 use mathlib.Core.Bool.{cond}
 use Rattle.algebra.specs.Tabulate.{tabulate}
 use Rattle.basis.specs.Table.{freeAt}
-use Rattle.words.specs.CodeBasis.{roles-are, fewer}
-use Rattle.words.proofs.Meaning.{columns-short}
+use Rattle.messages.specs.CodeBasis.{roles-are, fewer}
+use Rattle.parity.specs.Selected.{columns-short}
 use borrow.Author.Needs.{needs}
 use Rattle.words.proofs.internal.roles.Statement.{statement}
 use Rattle.words.proofs.internal.roles.Tie as tie

@@ -9,8 +9,8 @@ use Rattle.refusals.specs.Rules.{fault-here, fault-none}
 use Rattle.slices.specs.Bits.{bits-are}
 use Rattle.basis.specs.Table.{Reaches}
 use Rattle.words.specs.Answers.{bitRules}
-use Rattle.words.specs.Parity.{signatureSum, signature-syndrome, reaches}
-use Rattle.words.specs.Word.{syndromeOf}
+use Rattle.parity.specs.Parity.{signatureSum, signature-syndrome, reaches}
+use Rattle.parity.specs.Word.{syndromeOf}
 use borrow.Author.Needs.{needs}
 use Rattle.words.proofs.internal.syndrome.Statement.{statement}
 use Rattle.words.proofs.internal.syndrome.Tie as tie

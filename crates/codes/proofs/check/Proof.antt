@@ -1,0 +1,114 @@
+-- `check` meets its contract: it refuses by the code's number, or stores the roots and the support.
+use mathlib.Core.Path.{sym, ap, _∙_}
+use Prim.Native.Nat.{ℕ, _≤_}
+use native.Mathlib.Omega.{arith}
+use lib.ListN.{length}
+use borrow.Author.Needs.{needs}
+use Rattle.algebra.specs.Tabulate.{tabulate}
+use Rattle.refusals.specs.Rules.{refuse, accept}
+use Rattle.refusals.specs.declared.Outcome.the-variants.{Refused}
+use Rattle.signature.specs.Tests.{added}
+use Rattle.params.specs.Code.{n-short}
+use Rattle.codes.specs.Answers.{checkFault, checkAnswer, rootsAfter, supportAfter}
+use Rattle.params.proofs.Stored.{offset-fits}
+use Rattle.signature.proofs.Stored.{roots-are, support-is}
+use Rattle.codes.proofs.Checked.{checked}
+use Rattle.codes.proofs.check.Statement.{statement}
+use Rattle.codes.proofs.check.Tie as tie
+
+cast-n : tie.Need-cast-n
+cast-n c = search needs
+
+slice-aggregate-code-fault-inverses : tie.Need-slice-aggregate-code-fault-inverses
+slice-aggregate-code-fault-inverses c = search needs
+
+code-fault-inverses-requires : tie.Need-code-fault-inverses-requires
+code-fault-inverses-requires c κs = search needs
+
+returns : tie.Need-returns
+unfolding checkFault checkAnswer rootsAfter supportAfter
+returns c =
+    let a = c .before .before .before .before .before .before .before .before .args in
+    let number = c .before .before .code-fault-inverses .ensures .0 in
+    let due = c .if1 .taken in
+    (refuse Refused _ number due, (refuse (λ k. a .roots .now) _ number due, refuse (λ k. a .support .now) _ number due))
+
+cast-omega : tie.Need-cast-omega
+unfolding checkFault
+cast-omega c =
+    let a = c .before .before .before .before .before .before .before .before .before .args in
+    let (r, s, A) =
+    checked (a .c) (a .h .now) (a .roots .now) (a .support .now)
+    (sym (c .before .before .before .code-fault-inverses .ensures .0) ∙ c .before .if1 .left) in
+    record { fits = offset-fits A }
+
+slice-aggregate-store-roots : tie.Need-slice-aggregate-store-roots
+slice-aggregate-store-roots c = search needs
+
+store-roots-requires : tie.Need-store-roots-requires
+unfolding checkFault
+store-roots-requires c κs =
+    let a = c .before .before .before .before .before .before .before .before .before .before .before .args in
+    let (r, s, A) =
+    checked (a .c) (a .h .now) (a .roots .now) (a .support .now)
+    (sym (c .before .before .before .before .before .code-fault-inverses .ensures .0) ∙ c .before .before .before .if1 .left) in
+    omega (arith, r, n-short (A .limits))
+
+slice-aggregate-store-support : tie.Need-slice-aggregate-store-support
+slice-aggregate-store-support c = search needs
+
+store-support-requires : tie.Need-store-support-requires
+unfolding checkFault
+store-support-requires c κs =
+    let a = c .before .before .before .before .before .before .before .before .before .before .before .before .before .before .before .before .args in
+    let (r, s, A) =
+    checked (a .c) (a .h .now) (a .roots .now) (a .support .now)
+    (sym (c .before .before .before .before .before .before .before .before .before .before .code-fault-inverses .ensures .0)
+    ∙ c .before .before .before .before .before .before .before .before .if1 .left) in
+    omega (arith, s, n-short (A .limits))
+
+same-length : tie.Need-same-length
+same-length c = search needs
+
+same-length-2 : tie.Need-same-length-2
+same-length-2 c = search needs
+
+returns-2 : tie.Need-returns-2
+unfolding checkFault checkAnswer rootsAfter supportAfter
+returns-2 c =
+    let a =
+    c .before .before .before .before .before .before .before .before .before .before .before .before .before .before .before .before .before .before .before .args in
+    let found = c .before .before .before .before .before .before .before .before .before .before .before .before .before .code-fault-inverses in
+    let number = found .ensures .0 in
+    let none = c .before .before .before .before .before .before .before .before .before .before .before .if1 .left in
+    let (r, s, A) = checked (a .c) (a .h .now) (a .roots .now) (a .support .now) (sym number ∙ none) in
+    let l = found .last .1 .1 .1 .0 in
+    let I = found .ensures .1 none in
+    let all : a .c .n ≤ length (a .h .now) = omega (arith, A .limits .h-length) in (
+      accept Refused _ number none,
+      (
+        c .before .before .before .before .before .before .before .store-roots .ensures ∙ ap (λ (k : ℕ). tabulate k (added l (a .c .omega))) r
+            ∙ roots-are I (a .c .n) all (a .c .omega)
+            ∙ accept (λ k. a .roots .now) _ number none,
+        c .before .before .store-support .ensures ∙ ap (λ (k : ℕ). tabulate k (added l (added l (a .c .omega) 0))) s
+            ∙ support-is I (a .c .n) all (a .c .omega)
+            ∙ accept (λ k. a .support .now) _ number none,
+      ),
+    )
+
+pub check-spec : {M : Type 1} → statement M
+check-spec =
+    tie.close
+    (tie.spec
+    cast-n
+    slice-aggregate-code-fault-inverses
+    code-fault-inverses-requires
+    returns
+    cast-omega
+    slice-aggregate-store-roots
+    store-roots-requires
+    slice-aggregate-store-support
+    store-support-requires
+    same-length
+    same-length-2
+    returns-2)

@@ -1,0 +1,122 @@
+-- Demands 1 and 2 of what `check` answers: within 01's limits it accepts a signature exactly if a Cauchy pair exists; what then stands in the buffers
+-- is such a pair, and every other offset is accepted too; where it refuses, the buffers are as they were.
+use mathlib.Core.Path.{_≡_, refl, sym, ap, ap₂, _∙_, subst}
+use mathlib.Core.Logic.{_↔_}
+use mathlib.Core.Bool.{Bool, _&&_}
+use mathlib.Core.List.{List}
+use Prim.Native.Nat.{ℕ, zero, suc, _*_, _^_, _≤_, _<_}
+use native.Mathlib.Omega.{arith}
+use lib.Dec.{eqb}
+use lib.ListN.{length, getD}
+use borrow.Author.Tests.{eq-eqb, eqb-true}
+use Rattle.algebra.specs.All.{both-true, both-hold}
+use Rattle.algebra.specs.Field.{Ops}
+use Rattle.algebra.specs.Tabulate.{tabulate, getD-tabulate}
+use Rattle.field.specs.Gf.{gf, gf-laws}
+use Rattle.refusals.specs.Rules.{unless-refused}
+use Rattle.refusals.specs.declared.Outcome.the-variants.{Done, Refused}
+use Rattle.params.specs.declared.Parameters.{Parameters}
+use Rattle.signature.specs.Signature.{Cauchy, HasCauchy}
+use Rattle.signature.specs.Existence.{rootAt, supportAt, pair-conditions}
+use Rattle.signature.specs.Pigeonhole.{cauchy-short}
+use Rattle.algebra.specs.Lists.{entryOf}
+use Rattle.params.specs.Accepted.{accepted-pair, withOffset, offset-accepted}
+use Rattle.params.specs.Code.{Limits, Accepted, accepted, accepts, codeFault}
+use Rattle.codes.specs.Answers.{checkFault, checkAnswer, rootsAfter, supportAfter}
+
+-- a pair may be given by other sequences that agree below n
+cauchy-cong : {A : Type 0} {K : Ops A} {n : ℕ} {h z L z′ L′ : ℕ → A} → ((i : ℕ) → i < n → z′ i ≡ z i) → ((j : ℕ) → j < n → L′ j ≡ L j)
+    → Cauchy K n h z L → Cauchy K n h z′ L′
+cauchy-cong {K = K} p q P =
+    record {
+      z-in = λ i l. subst (K .In) (sym (p i l)) (P .z-in i l);
+      L-in = λ j l. subst (K .In) (sym (q j l)) (P .L-in j l);
+      z-distinct = λ i j l lj e. P .z-distinct i j l lj (sym (p i (omega arith)) ∙ e ∙ p j lj);
+      L-distinct = λ i j l lj e. P .L-distinct i j l lj (sym (q i (omega arith)) ∙ e ∙ q j lj);
+      disjoint = λ i j li lj e. P .disjoint i j li lj (sym (p i li) ∙ e ∙ q j lj);
+      entry = λ i j li lj. ap (K .inv) (ap₂ (K .add) (p i li) (q j lj)) ∙ P .entry i j li lj;
+    }
+
+done-zero : (k : ℕ) → unless-refused k Refused Done ≡ Done → k ≡ 0
+unfolding unless-refused
+done-zero zero e = refl
+done-zero (suc k) e =
+    let z : _≡_ {A = ℕ} 0 1 = cc in absurd (omega arith)
+
+refused-same : {A : Type 0} (k j : ℕ) (old new : A) → unless-refused k Refused Done ≡ Refused j → unless-refused k (λ i. old) new ≡ old
+unfolding unless-refused
+refused-same zero j old new e =
+    let z : _≡_ {A = ℕ} 0 1 = cc in absurd (omega arith)
+refused-same (suc k) j old new e = refl
+
+module _ (c : Parameters) (h roots support : List ℕ) where
+  -- both buffers have n entries
+  abbrev lent : Bool
+  lent = eqb (length roots) (c .n) && eqb (length support) (c .n)
+
+  -- demand 1: "a fault in the input brings back its number … with each buffer unchanged"
+  pub refused-unchanged : (k : ℕ) → checkAnswer c h roots support ≡ Refused k
+      → (rootsAfter c h roots support ≡ roots) × (supportAfter c h roots support ≡ support)
+  unfolding checkAnswer rootsAfter supportAfter
+  refused-unchanged k e =
+      let number = checkFault c h roots support in
+      (refused-same number k roots _ e, refused-same number k support _ e)
+
+  pub done-accepted : checkAnswer c h roots support ≡ Done → Accepted c h
+  unfolding checkAnswer checkFault codeFault
+  done-accepted e = accepted lent c h (done-zero (checkFault c h roots support) e) .1
+
+  done-lengths : checkAnswer c h roots support ≡ Done → (length roots ≡ c .n) × (length support ≡ c .n)
+  unfolding checkAnswer checkFault codeFault
+  done-lengths e =
+      let b = accepted lent c h (done-zero (checkFault c h roots support) e) .0 in
+      let (r, s) = both-true (eqb (length roots) (c .n)) (eqb (length support) (c .n)) b in
+      (eqb-true (length roots) (c .n) r, eqb-true (length support) (c .n) s)
+
+  pub accepted-done : length roots ≡ c .n → length support ≡ c .n → Accepted c h → checkAnswer c h roots support ≡ Done
+  unfolding checkAnswer checkFault codeFault unless-refused
+  accepted-done r s A =
+      ap (λ (k : ℕ). unless-refused k Refused Done)
+      (accepts lent c h (both-hold (eq-eqb (length roots) (c .n) r) (eq-eqb (length support) (c .n) s)) A)
+
+  -- demand 2: "Within 01's limits a signature is accepted exactly if two disjoint sequences of distinct field elements exist whose Cauchy matrix is
+  -- its dyadic matrix"
+  pub done-exactly : Limits c h → c .omega < 2 ^ c .m → length roots ≡ c .n → length support ≡ c .n
+      → (checkAnswer c h roots support ≡ Done) ↔ HasCauchy (gf (c .m)) (c .n) (entryOf h)
+  done-exactly L o r s = (
+    λ e. (rootAt (gf (c .m)) (c .omega) (entryOf h), supportAt (gf (c .m)) (c .omega) (entryOf h), accepted-pair (done-accepted e)),
+    λ p. accepted-done r s
+        (record {
+          limits = L;
+          ω-in = o;
+          conditions = pair-conditions (gf (c .m)) (gf-laws (c .m) (L .width)) (c .n) (entryOf h) (p .0) (p .1)
+              (p .2);
+        }),
+  )
+
+  -- "such a pair then comes back"
+  pub done-pair : checkAnswer c h roots support ≡ Done
+      → Cauchy (gf (c .m)) (c .n) (entryOf h) (entryOf (rootsAfter c h roots support)) (entryOf (supportAfter c h roots support))
+  unfolding checkAnswer rootsAfter supportAfter unless-refused
+  done-pair e =
+      let z : checkFault c h roots support ≡ 0 = done-zero (checkFault c h roots support) e in
+      cauchy-cong
+      (λ i l. ap (λ (k : ℕ). getD (unless-refused k (λ j. roots) (tabulate (c .n) (rootAt (gf (c .m)) (c .omega) (entryOf h)))) i 0) z
+      ∙ getD-tabulate (c .n) (rootAt (gf (c .m)) (c .omega) (entryOf h)) i 0 l)
+      (λ i l. ap (λ (k : ℕ). getD (unless-refused k (λ j. support) (tabulate (c .n) (supportAt (gf (c .m)) (c .omega) (entryOf h)))) i 0) z
+      ∙ getD-tabulate (c .n) (supportAt (gf (c .m)) (c .omega) (entryOf h)) i 0 l)
+      (accepted-pair (done-accepted e))
+
+  -- "n above q/2 is therefore never accepted"
+  pub done-short : checkAnswer c h roots support ≡ Done → 2 * c .n ≤ 2 ^ c .m
+  done-short e =
+      cauchy-short (c .m) (c .n) (entryOf h) (rootAt (gf (c .m)) (c .omega) (entryOf h)) (supportAt (gf (c .m)) (c .omega) (entryOf h))
+      (accepted-pair (done-accepted e))
+
+-- ---- "for every offset"
+
+pub every-offset : (c : Parameters) (ω : ℕ) (h roots support : List ℕ) → ω < 2 ^ c .m → checkAnswer c h roots support ≡ Done
+    → checkAnswer (withOffset c ω) h roots support ≡ Done
+every-offset c ω h roots support l e =
+    let (r, s) = done-lengths c h roots support e in
+    accepted-done (withOffset c ω) h roots support r s (offset-accepted ω l (done-accepted c h roots support e))

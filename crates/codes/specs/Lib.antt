@@ -1,0 +1,4 @@
+pub mod Same
+pub mod Answers
+pub mod Acceptance
+pub mod Agreement

@@ -1,0 +1,2 @@
+pub mod CodeBasis
+pub mod MessageRules

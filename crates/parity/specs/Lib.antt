@@ -1,0 +1,9 @@
+pub mod Word
+pub mod Columns
+pub mod Selected
+pub mod Whole
+pub mod Parity
+pub mod Systematic
+pub mod Encoding
+pub mod Offset
+pub mod Zero

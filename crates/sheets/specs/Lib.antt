@@ -1,0 +1,4 @@
+pub mod Sheet
+pub mod Fault
+pub mod Reading
+pub mod Laws
