@@ -8,8 +8,8 @@ use Rattle.fields.specs.Fields.{lineText}
 use Rattle.fields.specs.Written.{over}
 use Rattle.sheets.specs.Sheet.{sheetParameters, sheetH}
 use Rattle.sheets.specs.Fault.{sheetRules, sheetFault}
-use Rattle.listing.specs.declared.Listed.{Listed}
-use Rattle.listing.specs.declared.Listed.the-variants.{Length, Refused}
+use Rattle.refusals.specs.declared.Counted.{Counted}
+use Rattle.refusals.specs.declared.Counted.the-variants.{Count, Refused}
 use Rattle.lines.specs.Listing.{listingText}
 
 -- a buffer too short for a text is refused by 2
@@ -19,8 +19,8 @@ roomRules text out = (2 unless leb (length text) (length out)) ∷ []
 -- ---- a call that only stores a text
 
 module _ (text out : List ℕ) where
-  unfoldable pub storedAnswer : Listed
-  storedAnswer = unless-refused (fault (roomRules text out)) Refused (Length (length text))
+  unfoldable pub storedAnswer : Counted
+  storedAnswer = unless-refused (fault (roomRules text out)) Refused (Count (length text))
 
   unfoldable pub storedAfter : List ℕ
   storedAfter = unless-refused (fault (roomRules text out)) (λ k. out) (over text out)
@@ -35,8 +35,8 @@ module _ (text : List ℕ) where
   unfoldable pub listingFault : List ℕ → ℕ
   listingFault out = fault (sheetRules text ++ roomRules sheetListing out)
 
-  unfoldable pub listingAnswer : List ℕ → Listed
-  listingAnswer out = unless-refused (listingFault out) Refused (Length (length sheetListing))
+  unfoldable pub listingAnswer : List ℕ → Counted
+  listingAnswer out = unless-refused (listingFault out) Refused (Count (length sheetListing))
 
   unfoldable pub listingAfter : List ℕ → List ℕ
   listingAfter out = unless-refused (listingFault out) (λ k. out) (over sheetListing out)
@@ -46,7 +46,7 @@ module _ (text : List ℕ) where
   unfoldable pub printedText : List ℕ
   printedText = unless-refused (sheetFault text) (λ k. lineText (k ∷ [])) sheetListing
 
-  unfoldable pub printedAnswer : List ℕ → Listed
+  unfoldable pub printedAnswer : List ℕ → Counted
   printedAnswer out = storedAnswer printedText out
 
   unfoldable pub printedAfter : List ℕ → List ℕ

@@ -17,7 +17,7 @@ use Rattle.sheets.specs.Sheet.{sheetParameters, sheetH}
 use Rattle.sheets.specs.Fault.{sheetFault}
 use Rattle.sheets.specs.Laws.{sheet-accepted}
 use Rattle.lines.specs.Lengths.{length-listing}
-use Rattle.listing.specs.declared.Listed.the-variants.{Length, Refused}
+use Rattle.refusals.specs.declared.Counted.the-variants.{Count, Refused}
 use Rattle.lines.specs.Listing.{longestListing}
 use Rattle.listing.specs.Answers.{roomRules, storedAnswer, storedAfter, sheetListing, printedText, printedAnswer}
 
@@ -28,25 +28,25 @@ module _ (text out : List ℕ) where
   unfolding storedAnswer storedAfter roomRules
   stored-short l =
       let due = sym (fault-here 2 [] (lt-leb (length text) (length out) l)) in
-      (refuse Refused (Length (length text)) due (λ z. omega arith), refuse (λ k. out) (over text out) due (λ z. omega arith))
+      (refuse Refused (Count (length text)) due (λ z. omega arith), refuse (λ k. out) (over text out) due (λ z. omega arith))
 
   pub stored-done : {k : ℕ} {new : List ℕ} → length text ≤ length out → k ≡ length text → new ≡ over text out
-      → (Length k ≡ storedAnswer text out) × (new ≡ storedAfter text out)
+      → (Count k ≡ storedAnswer text out) × (new ≡ storedAfter text out)
   unfolding storedAnswer storedAfter roomRules
   stored-done l e w =
       let none = fault-past 2 [] (le-leb (length text) (length out) l) fault-empty in
-      (ap Length e ∙ accept Refused (Length (length text)) refl none, w ∙ accept (λ k. out) (over text out) refl none)
+      (ap Count e ∙ accept Refused (Count (length text)) refl none, w ∙ accept (λ k. out) (over text out) refl none)
 
-  pub stored-fits : (k : ℕ) → storedAnswer text out ≡ Length k → k ≤ length out
+  pub stored-fits : (k : ℕ) → storedAnswer text out ≡ Count k → k ≤ length out
   stored-fits k e = decided (leb (length text) (length out)) refl
     where
       decided : (b : Bool) → leb (length text) (length out) ≡ b → k ≤ length out
       decided true t =
-          let done : Length (length text) ≡ Length k = stored-done (leb-true (length text) (length out) t) refl refl .0 ∙ e in
+          let done : Count (length text) ≡ Count k = stored-done (leb-true (length text) (length out) t) refl refl .0 ∙ e in
           let same : length text ≡ k = cc in
           subst (λ (i : ℕ). i ≤ length out) same (leb-true (length text) (length out) t)
       decided false f =
-          let refused : Refused 2 ≡ Length k = stored-short (leb-false (length text) (length out) f) .0 ∙ e in
+          let refused : Refused 2 ≡ Count k = stored-short (leb-false (length text) (length out) f) .0 ∙ e in
           let z : _≡_ {A = ℕ} 0 1 = cc in absurd (omega arith)
 
 -- ---- what is printed
@@ -67,6 +67,6 @@ module _ (text : List ℕ) where
       decided (no ne) =
           omega (arith, ap length (refuse (λ k. lineText (k ∷ [])) (sheetListing text) refl ne), length-line (sheetFault text ∷ []))
 
-  pub printed-done : (out : List ℕ) → longestListing ≤ length out → printedAnswer text out ≡ Length (length (printedText text))
+  pub printed-done : (out : List ℕ) → longestListing ≤ length out → printedAnswer text out ≡ Count (length (printedText text))
   unfolding printedAnswer
   printed-done out l = sym (stored-done (printedText text) out (omega (arith, printed-short)) refl refl .0)

@@ -6,6 +6,7 @@ use fields::FIELD;
 use fields::GREATEST;
 use lines::CODE_LINE;
 use lines::COLUMN_LINE;
+use refusals::Counted;
 use slices::LONGEST;
 ghost use mathlib.Core.Path.{_≡_};
 ghost use mathlib.Core.List.{[], _∷_};
@@ -14,14 +15,8 @@ ghost use Rattle.sheets.specs.Fault.{SheetRead};
 ghost use Rattle.listing.specs.Answers.{sheetListing, storedAnswer, storedAfter};
 ghost use Rattle.listing.specs.Answers.{listingAnswer, listingAfter, printedAnswer, printedAfter};
 
-// The length of the text that a call stored at the front of its buffer, or the number that refuses the call.
-pub enum Listed {
-    Length(u32),
-    Refused(u32),
-}
-
-// The listing of the code on a sheet at the front of `out`.
-pub fn listing(text: &[u8], out: &mut [u8]) -> Listed
+// The listing of the code on a sheet at the front of `out`, and its length.
+pub fn listing(text: &[u8], out: &mut [u8]) -> Counted
     ensures { λ r. ⌜ r ≡ listingAnswer (now (text .entry)) (now (out .entry)) ⌝ }
     ensures { λ _. ⌜ now (out .exit) ≡ listingAfter (now (text .entry)) (now (out .entry)) ⌝ }
 {
@@ -29,13 +24,13 @@ pub fn listing(text: &[u8], out: &mut [u8]) -> Listed
     let mut inverses: [Elem; LONGEST] = [0; LONGEST];
     let number = sheets::sheet_fault(text, &mut h, &mut inverses);
     if number != 0 {
-        return Listed::Refused(number);
+        return Counted::Refused(number);
     }
     sheet_listing(text, &h, &inverses, out)
 }
 
 // The same, with the line of its number in place of the listing where the text is refused: only a short buffer is refused.
-pub fn printed(text: &[u8], out: &mut [u8]) -> Listed
+pub fn printed(text: &[u8], out: &mut [u8]) -> Counted
     ensures { λ r. ⌜ r ≡ printedAnswer (now (text .entry)) (now (out .entry)) ⌝ }
     ensures { λ _. ⌜ now (out .exit) ≡ printedAfter (now (text .entry)) (now (out .entry)) ⌝ }
 {
@@ -49,7 +44,7 @@ pub fn printed(text: &[u8], out: &mut [u8]) -> Listed
 }
 
 // The listing of the code on a sheet at the front of `out`, where the signature and its inverses were read.
-fn sheet_listing(text: &[u8], h: &[Elem], inverses: &[Elem], out: &mut [u8]) -> Listed
+fn sheet_listing(text: &[u8], h: &[Elem], inverses: &[Elem], out: &mut [u8]) -> Counted
     requires { ⌜ SheetRead (now text) (now h) (now inverses) ⌝ }
     ensures { λ r. ⌜ r ≡ storedAnswer (sheetListing (now (text .entry))) (now (out .entry)) ⌝ }
     ensures { λ _. ⌜ now (out .exit) ≡ storedAfter (sheetListing (now (text .entry))) (now (out .entry)) ⌝ }
@@ -58,20 +53,20 @@ fn sheet_listing(text: &[u8], h: &[Elem], inverses: &[Elem], out: &mut [u8]) -> 
     let n = c.n as usize;
     let length = CODE_LINE + n * COLUMN_LINE;
     if out.len() < length {
-        return Listed::Refused(refusals::LENGTH);
+        return Counted::Refused(refusals::LENGTH);
     }
     lines::write_listing(c, &h[..n], inverses, out);
-    Listed::Length(length as u32)
+    Counted::Count(length as u32)
 }
 
 // The line of a number at the front of `out`.
-fn number_line(number: u32, out: &mut [u8]) -> Listed
+fn number_line(number: u32, out: &mut [u8]) -> Counted
     ensures { λ r. ⌜ r ≡ storedAnswer (lineText (number ∷ [])) (now (out .entry)) ⌝ }
     ensures { λ _. ⌜ now (out .exit) ≡ storedAfter (lineText (number ∷ [])) (now (out .entry)) ⌝ }
 {
     if out.len() < FIELD + 1 {
-        return Listed::Refused(refusals::LENGTH);
+        return Counted::Refused(refusals::LENGTH);
     }
     let line = [number];
-    Listed::Length(fields::put_line(&line, 0, out) as u32)
+    Counted::Count(fields::put_line(&line, 0, out) as u32)
 }

@@ -5,9 +5,9 @@ use mathlib.Core.Bool.{Bool, true}
 use mathlib.Core.List.{List, _++_}
 use Prim.Native.Nat.{ℕ}
 use Rattle.refusals.specs.Ending.{first-refuses, second-decides}
-use Rattle.refusals.specs.Rules.{Rule, fault, unless-refused}
+use Rattle.refusals.specs.Rules.{Rule, fault, fault-rest, unless-refused}
 use Rattle.params.specs.declared.Parameters.{Parameters}
-use Rattle.params.specs.Code.{codeFault, Accepted, codeRules, code-numbered, accepted}
+use Rattle.params.specs.Code.{codeFault, Accepted, codeRules, code-numbered, accepted, accepts}
 
 -- `buffers` says that the lent buffers have their lengths, and k is the number that was found for the code
 module _ (buffers : Bool) (c : Parameters) (h : List ℕ) {k : ℕ} (found : k ≡ codeFault buffers c h) where
@@ -28,3 +28,8 @@ module _ (buffers : Bool) (c : Parameters) (h : List ℕ) {k : ℕ} (found : k �
     unfolding codeFault
     code-passes more refused value e =
         second-decides (codeRules buffers c h) more refused value (code-numbered buffers c h) (sym found ∙ none) e
+
+-- an accepted code, with buffers of their lengths, leaves a call to its own rules
+pub code-leaves : {c : Parameters} {h : List ℕ} → Accepted c h → {buffers : Bool} → buffers ≡ true → (more : List Rule)
+    → fault (codeRules buffers c h ++ more) ≡ fault more
+code-leaves {c} {h} A {buffers} lent more = fault-rest (codeRules buffers c h) more (code-numbered buffers c h) (accepts buffers c h lent A)

@@ -33,7 +33,7 @@ pub record Summed (m : ℕ) (h cols word : List ℕ) : Type 0 where
   pub bits : Bits word
   pub elements : Elements m h
 
-held-in : (m w x : ℕ) → x < 2 ^ m → held w x < 2 ^ m
+pub held-in : (m w x : ℕ) → x < 2 ^ m → held w x < 2 ^ m
 unfolding held
 held-in m zero x l = pow-pos m
 held-in m (suc w) x l = l
@@ -77,12 +77,13 @@ Checks m n t e w = (i : ℕ) → i < t → sum (gf m) n (λ j. held (w j) (e i j
 abbrev pub bitRow : (ℕ → ℕ → ℕ) → ℕ → ℕ → ℕ → ℕ
 bitRow e i b j = bitAt (e i j) b
 
-module _ {m n t : ℕ} (W : Width m) {e : ℕ → ℕ → ℕ} (e-in : (i j : ℕ) → i < t → j < n → e i j < 2 ^ m) where
-  bitAt-sum : (k : ℕ) (f : ℕ → ℕ) (b : ℕ) → bitAt (sum (gf m) k f) b ≡ sum gf2 k (λ j. bitAt (f j) b)
-  unfolding sum
-  bitAt-sum zero f b = bitAt-zero b
-  bitAt-sum (suc k) f b = bitAt-⊕ (sum (gf m) k f) (f k) b ∙ ap (λ (x : ℕ). x ⊕ bitAt (f k) b) (bitAt-sum k f b)
+-- bits of a sum of elements are sums of bits
+pub bitAt-sum : (m k : ℕ) (f : ℕ → ℕ) (b : ℕ) → bitAt (sum (gf m) k f) b ≡ sum gf2 k (λ j. bitAt (f j) b)
+unfolding sum
+bitAt-sum m zero f b = bitAt-zero b
+bitAt-sum m (suc k) f b = bitAt-⊕ (sum (gf m) k f) (f k) b ∙ ap (λ (x : ℕ). x ⊕ bitAt (f k) b) (bitAt-sum m k f b)
 
+module _ {m n t : ℕ} (W : Width m) {e : ℕ → ℕ → ℕ} (e-in : (i j : ℕ) → i < t → j < n → e i j < 2 ^ m) where
   bitAt-held : (w x b : ℕ) → w < 2 → bitAt (held w x) b ≡ gf2 .mul (bitAt x b) w
   unfolding held
   bitAt-held zero x b l = bitAt-zero b ∙ sym (mul-zero (bitAt x b % 2))
@@ -92,7 +93,7 @@ module _ {m n t : ℕ} (W : Width m) {e : ℕ → ℕ → ℕ} (e-in : (i j : �
   bitAt-check : (w : ℕ → ℕ) → Inside gf2 n w → (i b : ℕ) → bitAt (sum (gf m) n (λ j. held (w j) (e i j))) b ≡ dot gf2 n (bitRow e i b) w
   unfolding dot
   bitAt-check w hw i b =
-      bitAt-sum n (λ j. held (w j) (e i j)) b ∙ sum-cong gf2 n (λ j l. bitAt-held (w j) (e i j) b (hw j l))
+      bitAt-sum m n (λ j. held (w j) (e i j)) b ∙ sum-cong gf2 n (λ j l. bitAt-held (w j) (e i j) b (hw j l))
 
   pub bit-rows : (w : ℕ → ℕ) → Inside gf2 n w → Checks m n t e w ↔ ((i b : ℕ) → i < t → b < m → dot gf2 n (bitRow e i b) w ≡ 0)
   bit-rows w hw = (

@@ -1,4 +1,4 @@
-// Why and how a call ends: the numbers of 01's table, and the outcome of a call whose result stands in lent buffers.
+// Why and how a call ends: the numbers of 01's table, and the outcome of a call whose result stands in lent buffers, or that counts.
 ghost use mathlib.Core.Path.{_≡_};
 ghost use Rattle.refusals.specs.Rules.{unless-refused};
 ghost use Rattle.refusals.specs.declared.Outcome.the-variants.{Done, Refused};
@@ -45,6 +45,12 @@ pub const NO_SHEET: u32 = 13;
 // The end of a call whose result stands in lent buffers: they are written only where it is Done.
 pub enum Outcome {
     Done,
+    Refused(u32),
+}
+
+// The end of a call that counts: message columns, or the bytes of a text at the front of its buffer.
+pub enum Counted {
+    Count(u32),
     Refused(u32),
 }
 

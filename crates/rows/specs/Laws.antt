@@ -12,11 +12,12 @@ use borrow.Author.Tests.{eq-eqb, eqb-true, leb-true, le-leb}
 use Rattle.algebra.specs.All.{both-true, both-hold}
 use Rattle.algebra.specs.Lists.{entryOf}
 use Rattle.algebra.specs.Places.{chosen, length-chosen}
-use Rattle.refusals.specs.Rules.{fault, fault-none, first-holds, fault-rest, hold, unless-refused, given}
+use Rattle.refusals.specs.Rules.{fault, fault-none, first-holds, hold, unless-refused, given}
 use Rattle.refusals.specs.declared.Outcome.the-variants.{Done, Refused}
 use Rattle.slices.specs.Bits.{Bits, allBits, IsBits, received-bits, all-bits}
 use Rattle.params.specs.declared.Parameters.{Parameters}
-use Rattle.params.specs.Code.{Accepted, codeRules, code-numbered, accepts, accepted}
+use Rattle.params.specs.Calls.{code-leaves}
+use Rattle.params.specs.Code.{Accepted, codeRules, accepted}
 use Rattle.parity.specs.Columns.{isMessageColumn, dimension, messageOf, encodingOf, messageLength}
 use Rattle.parity.specs.Encoding.{encoding-carries, encoding-only}
 use Rattle.parity.specs.Selected.{Selected, length-whole, whole-selected}
@@ -49,7 +50,7 @@ append-bits [] b f g i = g i
 append-bits (x ∷ a) b f g zero = f 0
 append-bits (x ∷ a) b f g (suc i) = append-bits a b (λ j. f (suc j)) g i
 
-chosen-bits : (n : ℕ) (p : ℕ → Bool) (w : ℕ → ℕ) → ((j : ℕ) → j < n → w j < 2) → (i : ℕ) → entryOf (chosen n p w) i < 2
+pub chosen-bits : (n : ℕ) (p : ℕ → Bool) (w : ℕ → ℕ) → ((j : ℕ) → j < n → w j < 2) → (i : ℕ) → entryOf (chosen n p w) i < 2
 unfolding chosen
 chosen-bits zero p w b = λ i. lit< tt
 chosen-bits (suc n) p w b =
@@ -181,9 +182,7 @@ module _ {c : Parameters} {h : List ℕ} (A : Accepted c h) (received repaired :
   read-rules : readFault c h received repaired ≡ fault (readRules c h (whole (c .n)) received)
   unfolding readFault
   read-rules =
-      let B = (eqb (length received) (c .n) && eqb (length repaired) (c .n)) in
-      fault-rest (codeRules B c h) (readRules c h (whole (c .n)) received) (code-numbered B c h)
-      (accepts B c h (both-hold (eq-eqb (length received) (c .n) long) (eq-eqb (length repaired) (c .n) lent)) A)
+      code-leaves A (both-hold (eq-eqb (length received) (c .n) long) (eq-eqb (length repaired) (c .n) lent)) (readRules c h (whole (c .n)) received)
 
   answer-is : readAnswer c h received repaired ≡ readingAnswer c h (whole (c .n)) received
   unfolding readAnswer readingAnswer
@@ -206,10 +205,7 @@ module _ {c : Parameters} {h : List ℕ} (A : Accepted c h) (wide : rowBits ≤ 
   write-none : writeFault c h gear lamp word ≡ 0
   unfolding writeFault
   write-none =
-      let B = eqb (length word) (c .n) in
-      fault-rest (codeRules B c h) (writeRules c h (whole (c .n)) gear lamp) (code-numbered B c h)
-      (accepts B c h (eq-eqb (length word) (c .n) lent) A)
-      ∙ write-passes A S wide gear lamp allowed
+      code-leaves A (eq-eqb (length word) (c .n) lent) (writeRules c h (whole (c .n)) gear lamp) ∙ write-passes A S wide gear lamp allowed
 
   -- every allowed row is written
   pub row-written : writeAnswer c h gear lamp word ≡ Done

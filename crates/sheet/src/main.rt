@@ -1,11 +1,11 @@
 // Reads a sheet from standard input, and prints the listing of its code or the number that refuses it.
 use libc::STDIN_FILENO;
 use libc::STDOUT_FILENO;
-use listing::Listed;
+use refusals::Counted;
 
 fn print(text: &[u8], out: &mut [u8]) {
     let listed = listing::printed(text, out);
-    if let Listed::Length(length) = listed {
+    if let Counted::Count(length) = listed {
         let end = length as usize;
         io::write_all(STDOUT_FILENO, &out[..end]);
     }

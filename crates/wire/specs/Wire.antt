@@ -3,20 +3,18 @@
 use Prim.Native.Nat.{ℕ, _+_, _*_, _-_, _%_, _^_}
 use Rattle.field.specs.declared.Answer.{Answer}
 use Rattle.field.specs.declared.Answer.the-variants.{Element, Refused as NoElement}
+use Rattle.refusals.specs.declared.Counted.{Counted}
+use Rattle.refusals.specs.declared.Counted.the-variants.{Count, Refused as NotCounted}
 use Rattle.refusals.specs.declared.Outcome.{Outcome}
 use Rattle.refusals.specs.declared.Outcome.the-variants.{Done, Refused}
 use Rattle.params.specs.declared.Parameters.{Parameters}
 use Rattle.codes.specs.declared.Sameness.{Sameness}
 use Rattle.codes.specs.declared.Sameness.the-variants.{Same, Different, Refused as NotCompared}
-use Rattle.words.specs.declared.Counted.{Counted}
-use Rattle.words.specs.declared.Counted.the-variants.{Count, Refused as NotCounted}
 use Rattle.repair.specs.declared.Recovery.{Recovery}
 use Rattle.repair.specs.declared.Recovery.the-variants.{Repaired, Refused as NotRepaired}
 use Rattle.gears.specs.Rows.{lampNumber}
 use Rattle.rows.specs.declared.Reading.{Reading}
 use Rattle.rows.specs.declared.Reading.the-variants.{Read, Refused as NotRead}
-use Rattle.listing.specs.declared.Listed.{Listed}
-use Rattle.listing.specs.declared.Listed.the-variants.{Length, Refused as NotListed}
 
 -- C hands over a code's numbers one by one
 abbrev pub code : ℕ → ℕ → ℕ → ℕ → Parameters
@@ -45,10 +43,6 @@ countedCode (NotCounted n) = minus n
 abbrev pub recoveryCode : Recovery → ℕ
 recoveryCode (Repaired count) = count
 recoveryCode (NotRepaired n) = minus n
-
-abbrev pub listedCode : Listed → ℕ
-listedCode (Length k) = k
-listedCode (NotListed n) = minus n
 
 -- a row and a count in one number of 32 bits
 abbrev pub readingCode : Reading → ℕ

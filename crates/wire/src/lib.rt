@@ -2,16 +2,15 @@
 use codes::Sameness;
 use field::Answer;
 use gears::Lamp;
-use listing::Listed;
+use refusals::Counted;
 use refusals::Outcome;
 use repair::Recovery;
 use rows::Reading;
 use std::num::wrapping_add_u32;
-use words::Counted;
 ghost use mathlib.Core.Path.{_≡_};
 ghost use Prim.Native.Nat.{_<_};
 ghost use Rattle.gears.specs.Rows.{lampNumber};
-ghost use Rattle.wire.specs.Wire.{minus, elementCode, outcomeCode, samenessCode, countedCode, recoveryCode, listedCode, readingCode};
+ghost use Rattle.wire.specs.Wire.{minus, elementCode, outcomeCode, samenessCode, countedCode, recoveryCode, readingCode};
 
 pub fn element_code(answer: Answer) -> u32
     ensures { λ r. ⌜ r ≡ elementCode answer ⌝ }
@@ -56,15 +55,6 @@ pub fn recovery_code(recovery: Recovery) -> u32
     match recovery {
         Recovery::Repaired(count) => count,
         Recovery::Refused(number) => minus(number),
-    }
-}
-
-pub fn listed_code(listed: Listed) -> u32
-    ensures { λ r. ⌜ r ≡ listedCode listed ⌝ }
-{
-    match listed {
-        Listed::Length(length) => length,
-        Listed::Refused(number) => minus(number),
     }
 }
 

@@ -11,8 +11,8 @@ use Rattle.slices.specs.Bits.{allBits}
 use Rattle.params.specs.declared.Parameters.{Parameters}
 use Rattle.params.specs.Code.{codeRules}
 use Rattle.messages.specs.MessageRules.{messageRules}
-use Rattle.words.specs.declared.Counted.{Counted}
-use Rattle.words.specs.declared.Counted.the-variants.{Count, Refused as NotCounted}
+use Rattle.refusals.specs.declared.Counted.{Counted}
+use Rattle.refusals.specs.declared.Counted.the-variants.{Count, Refused as NotCounted}
 use Rattle.parity.specs.Word.{whole, syndromeOf}
 use Rattle.parity.specs.Columns.{rolesOf, messageOf, encodingOf, messageLength}
 

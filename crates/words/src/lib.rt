@@ -8,17 +8,13 @@ use basis::Column;
 use field::Elem;
 use params::Parameters;
 use parity::whole_code;
+use refusals::Counted;
 use refusals::Outcome;
 use refusals::ended;
 use slices::LONGEST;
 ghost use mathlib.Core.Path.{_≡_};
 ghost use Rattle.words.specs.Answers.{rolesAnswer, rolesAfter, syndromeAnswer, syndromeAfter};
 ghost use Rattle.words.specs.Answers.{encodeAnswer, encodeAfter, messageAnswer, messageAfter};
-
-pub enum Counted {
-    Count(u32),
-    Refused(u32),
-}
 
 // 1 for each message column and 0 for each check column into `out`, and k, the number of message columns.
 pub fn roles(c: Parameters, h: &[Elem], out: &mut [u8]) -> Counted

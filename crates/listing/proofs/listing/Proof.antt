@@ -1,7 +1,7 @@
 -- `listing` meets its contract: the sheet's number stands, and where there is none the listing is stored.
 use mathlib.Core.Path.{sym, _∙_}
 use Rattle.refusals.specs.Ending.{first-refuses, second-decides}
-use Rattle.listing.specs.declared.Listed.the-variants.{Refused}
+use Rattle.refusals.specs.declared.Counted.the-variants.{Refused}
 use Rattle.sheets.specs.Fault.{sheetRules, sheetFault}
 use Rattle.sheets.specs.Laws.{sheet-numbered}
 use Rattle.listing.specs.Answers.{roomRules, storedAnswer, storedAfter, sheetListing}

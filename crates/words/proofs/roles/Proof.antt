@@ -6,7 +6,7 @@ use Rattle.refusals.specs.Rules.{refuse, accept}
 use Rattle.params.specs.Code.{codeFault}
 use Rattle.parity.specs.Columns.{rolesOf, dimension}
 use Rattle.parity.specs.Whole.{whole-accepted, whole-short, whole-columns, whole-long}
-use Rattle.words.specs.declared.Counted.the-variants.{Count, Refused}
+use Rattle.refusals.specs.declared.Counted.the-variants.{Count, Refused}
 use Rattle.words.specs.Answers.{rolesFault, rolesAnswer, rolesAfter}
 use borrow.Author.Needs.{needs}
 use Rattle.words.proofs.roles.Statement.{statement}
