@@ -26,7 +26,7 @@ use Rattle.params.specs.declared.Parameters.{Parameters}
 use Rattle.params.specs.Code.{codeFault, isLength, isRootCount, shapeRules, codeRules}
 use Rattle.codes.specs.Answers.{checkFault, checkAnswer, supportAfter}
 use Rattle.signature.specs.Tests.{signatureRules, inverseAt, nonzero, noZero, pairKept, affine, linear, distinct}
-use Rattle.signature.specs.Existence.{rootAt, supportAt}
+use Rattle.signature.specs.Signature.{rootAt, supportAt}
 use Rattle.algebra.specs.Lists.{sameEntry, sameList, sameList-is}
 use Rattle.messages.specs.MessageRules.{messageRules}
 use Rattle.words.specs.Answers.{encodeFault, encodeAnswer, encodeAfter}
@@ -53,21 +53,21 @@ recovery : Recovery → List ℕ → List ℕ
 recovery (Repaired count) buffer = 0 ∷ count ∷ buffer
 recovery (NotRepaired k) buffer = k ∷ buffer
 
--- ---- the calls of the cases; a lent buffer holds zeros at first
+-- ---- the calls of the cases; a lent buffer is marked at first, with a number that no call of the cases writes, so that an unchanged buffer shows
 
-blank : ℕ → List ℕ
-blank n = tabulate n zeroAt
+marked : ℕ → List ℕ
+marked n = tabulate n mark
   where
-    zeroAt : ℕ → ℕ
-    zeroAt i = 0
+    mark : ℕ → ℕ
+    mark i = 99
 
 blockProductOf : ℕ → List ℕ → List ℕ → List ℕ
 blockProductOf m a b =
-    let lent = blank (length a) in outcome (blockProductAnswer m a b lent) (blockProductAfter m a b lent)
+    let lent = marked (length a) in outcome (blockProductAnswer m a b lent) (blockProductAfter m a b lent)
 
 blockInverseOf : ℕ → List ℕ → List ℕ
 blockInverseOf m a =
-    let lent = blank (length a) in outcome (blockInverseAnswer m a lent) (blockInverseAfter m a lent)
+    let lent = marked (length a) in outcome (blockInverseAnswer m a lent) (blockInverseAfter m a lent)
 
 -- the numbers of a card with one root and no offset
 card : ℕ → ℕ → Parameters
@@ -76,17 +76,17 @@ card m n = record { m = m; n = n; t = 1; omega = 0 }
 -- whether a signature is accepted, with one root and no offset, and its support
 signatureOf : ℕ → List ℕ → List ℕ
 signatureOf m h =
-    let lent = blank (length h) in outcome (checkAnswer (card m (length h)) h lent lent) (supportAfter (card m (length h)) h lent lent)
+    let lent = marked (length h) in outcome (checkAnswer (card m (length h)) h lent lent) (supportAfter (card m (length h)) h lent lent)
 
 -- card A
 signatureA : List ℕ
 signatureA = 7 ∷ 2 ∷ 3 ∷ 4 ∷ []
 
 encodingA : List ℕ → List ℕ
-encodingA message = outcome (encodeAnswer (card 3 4) signatureA message (blank 4)) (encodeAfter (card 3 4) signatureA message (blank 4))
+encodingA message = outcome (encodeAnswer (card 3 4) signatureA message (marked 4)) (encodeAfter (card 3 4) signatureA message (marked 4))
 
 repairA : List ℕ → List ℕ
-repairA received = recovery (repairAnswer (card 3 4) signatureA received (blank 4)) (repairAfter (card 3 4) signatureA received (blank 4))
+repairA received = recovery (repairAnswer (card 3 4) signatureA received (marked 4)) (repairAfter (card 3 4) signatureA received (marked 4))
 
 -- ---- the table
 
@@ -105,16 +105,16 @@ table =
     -- "width 3: block (1, 2) times itself is (5, 0); its inverse is (2, 4)." "block (3, 3) has none: 9."
     ∷ is (blockProductOf 3 (1 ∷ 2 ∷ []) (1 ∷ 2 ∷ [])) (0 ∷ 5 ∷ 0 ∷ [])
     ∷ is (blockInverseOf 3 (1 ∷ 2 ∷ [])) (0 ∷ 2 ∷ 4 ∷ [])
-    ∷ is (blockInverseOf 3 (3 ∷ 3 ∷ [])) (9 ∷ 0 ∷ 0 ∷ [])
+    ∷ is (blockInverseOf 3 (3 ∷ 3 ∷ [])) (9 ∷ marked 2)
     -- "width 3: h = 7 2 3 5 gives 5." "width 2: 1 1 1 1 gives 6; 1 0 gives 4; 1 2 with ω 0 is accepted, L = 0 2."
-    ∷ is (signatureOf 3 (7 ∷ 2 ∷ 3 ∷ 5 ∷ [])) (5 ∷ blank 4)
-    ∷ is (signatureOf 2 (1 ∷ 1 ∷ 1 ∷ 1 ∷ [])) (6 ∷ blank 4)
-    ∷ is (signatureOf 2 (1 ∷ 0 ∷ [])) (4 ∷ 0 ∷ 0 ∷ [])
+    ∷ is (signatureOf 3 (7 ∷ 2 ∷ 3 ∷ 5 ∷ [])) (5 ∷ marked 4)
+    ∷ is (signatureOf 2 (1 ∷ 1 ∷ 1 ∷ 1 ∷ [])) (6 ∷ marked 4)
+    ∷ is (signatureOf 2 (1 ∷ 0 ∷ [])) (4 ∷ marked 2)
     ∷ is (signatureOf 2 (1 ∷ 2 ∷ [])) (0 ∷ 0 ∷ 2 ∷ [])
     -- "card A: message 1 is word 1 0 1 1." "1 0 1 0 is repaired to it, count 1." "1 1 0 0 gives 10."
     ∷ is (encodingA (1 ∷ [])) (0 ∷ 1 ∷ 0 ∷ 1 ∷ 1 ∷ [])
     ∷ is (repairA (1 ∷ 0 ∷ 1 ∷ 0 ∷ [])) (0 ∷ 1 ∷ 1 ∷ 0 ∷ 1 ∷ 1 ∷ [])
-    ∷ is (repairA (1 ∷ 1 ∷ 0 ∷ 0 ∷ [])) (10 ∷ blank 4)
+    ∷ is (repairA (1 ∷ 1 ∷ 0 ∷ 0 ∷ [])) (10 ∷ marked 4)
     ∷ []
 
 -- ---- one proof over its rows
@@ -134,7 +134,7 @@ agreeing (c ∷ cs) e =
     let (here, rest) = both-true (sameList (c .given) (c .said)) (agree cs) e in (sameList-is (c .given) (c .said) .0 here, agreeing cs rest)
 
 table-agrees : agree table ≡ true
-unfolding agree table is element outcome recovery blank card blockProductOf blockInverseOf signatureOf signatureA encodingA repairA elementRules pairFault productAnswer inverseFault inverseAnswer polyProduct cutBack remainder product squares inverse fault unless-refused isWidth isElement words word allElements isPower sizeRules blockRules blockPairRules inverseRules blockPairFault blockInverseFault blockProductAnswer blockProductAfter blockInverseAnswer blockInverseAfter blockProduct total quotient blockInverse codeFault checkFault checkAnswer supportAfter isLength isRootCount shapeRules signatureRules codeRules rootAt supportAt inverseAt nonzero noZero pairKept affine linear distinct messageRules encodeFault encodeAnswer encodeAfter count chosen wordOf found sameList sameEntry isSumOf isSum isMessageColumn dimension messageOf encodingOf whole allBits parityAt held syndromeAt isCodeWord wordRules turnedCount repairFault repairAnswer repairAfter distance isNear isRepairable differs repairedOf all some bitAt sum tabulate _⊕_
+unfolding agree table is element outcome recovery marked card blockProductOf blockInverseOf signatureOf signatureA encodingA repairA elementRules pairFault productAnswer inverseFault inverseAnswer polyProduct cutBack remainder product squares inverse fault unless-refused isWidth isElement words word allElements isPower sizeRules blockRules blockPairRules inverseRules blockPairFault blockInverseFault blockProductAnswer blockProductAfter blockInverseAnswer blockInverseAfter blockProduct total quotient blockInverse codeFault checkFault checkAnswer supportAfter isLength isRootCount shapeRules signatureRules codeRules rootAt supportAt inverseAt nonzero noZero pairKept affine linear distinct messageRules encodeFault encodeAnswer encodeAfter count chosen wordOf found sameList sameEntry isSumOf isSum isMessageColumn dimension messageOf encodingOf whole allBits parityAt held syndromeAt isCodeWord wordRules turnedCount repairFault repairAnswer repairAfter distance isNear isRepairable differs repairedOf all some bitAt sum tabulate _⊕_
 table-agrees = refl
 
 pub table-holds : Hold table

@@ -8,7 +8,8 @@ use lib.ListN.{length}
 use borrow.Author.Tests.{eqb-true}
 use Rattle.algebra.specs.All.{both-true}
 use Rattle.params.specs.declared.Parameters.{Parameters}
-use Rattle.params.specs.Code.{Accepted, accepted, codeFault}
+use Rattle.params.specs.Accepted.{accepted}
+use Rattle.params.specs.Code.{Accepted, codeFault}
 use Rattle.codes.specs.Answers.{checkFault}
 
 -- the buffers of `check` have their lengths

@@ -1,5 +1,5 @@
--- Demands 1 and 2 of what `check` answers: within 01's limits it accepts a signature exactly if a Cauchy pair exists; what then stands in the buffers
--- is such a pair, and every other offset is accepted too; where it refuses, the buffers are as they were.
+-- Demand 2 of what `check` answers: within 01's limits it accepts a signature exactly if a Cauchy pair exists, and what then stands in the buffers is such
+-- a pair.
 use mathlib.Core.Path.{_≡_, refl, sym, ap, ap₂, _∙_, subst}
 use mathlib.Core.Logic.{_↔_}
 use mathlib.Core.Bool.{Bool, _&&_}
@@ -8,20 +8,20 @@ use Prim.Native.Nat.{ℕ, zero, suc, _*_, _^_, _≤_, _<_}
 use native.Mathlib.Omega.{arith}
 use lib.Dec.{eqb}
 use lib.ListN.{length, getD}
-use borrow.Author.Tests.{eq-eqb, eqb-true}
-use Rattle.algebra.specs.All.{both-true, both-hold}
+use borrow.Author.Tests.{eq-eqb}
+use Rattle.algebra.specs.All.{both-hold}
 use Rattle.algebra.specs.Field.{Ops}
 use Rattle.algebra.specs.Tabulate.{tabulate, getD-tabulate}
 use Rattle.field.specs.Gf.{gf, gf-laws}
 use Rattle.refusals.specs.Rules.{unless-refused}
 use Rattle.refusals.specs.declared.Outcome.the-variants.{Done, Refused}
 use Rattle.params.specs.declared.Parameters.{Parameters}
-use Rattle.signature.specs.Signature.{Cauchy, HasCauchy}
-use Rattle.signature.specs.Existence.{rootAt, supportAt, pair-conditions}
+use Rattle.signature.specs.Signature.{Cauchy, HasCauchy, rootAt, supportAt}
+use Rattle.signature.specs.Existence.{pair-conditions}
 use Rattle.signature.specs.Pigeonhole.{cauchy-short}
 use Rattle.algebra.specs.Lists.{entryOf}
-use Rattle.params.specs.Accepted.{accepted-pair, withOffset, offset-accepted}
-use Rattle.params.specs.Code.{Limits, Accepted, accepted, accepts, codeFault}
+use Rattle.params.specs.Accepted.{accepted-pair, accepted, accepts}
+use Rattle.params.specs.Code.{Limits, Accepted, codeFault}
 use Rattle.codes.specs.Answers.{checkFault, checkAnswer, rootsAfter, supportAfter}
 
 -- a pair may be given by other sequences that agree below n
@@ -43,35 +43,14 @@ done-zero zero e = refl
 done-zero (suc k) e =
     let z : _≡_ {A = ℕ} 0 1 = cc in absurd (omega arith)
 
-refused-same : {A : Type 0} (k j : ℕ) (old new : A) → unless-refused k Refused Done ≡ Refused j → unless-refused k (λ i. old) new ≡ old
-unfolding unless-refused
-refused-same zero j old new e =
-    let z : _≡_ {A = ℕ} 0 1 = cc in absurd (omega arith)
-refused-same (suc k) j old new e = refl
-
 module _ (c : Parameters) (h roots support : List ℕ) where
   -- both buffers have n entries
   abbrev lent : Bool
   lent = eqb (length roots) (c .n) && eqb (length support) (c .n)
 
-  -- demand 1: "a fault in the input brings back its number … with each buffer unchanged"
-  pub refused-unchanged : (k : ℕ) → checkAnswer c h roots support ≡ Refused k
-      → (rootsAfter c h roots support ≡ roots) × (supportAfter c h roots support ≡ support)
-  unfolding checkAnswer rootsAfter supportAfter
-  refused-unchanged k e =
-      let number = checkFault c h roots support in
-      (refused-same number k roots _ e, refused-same number k support _ e)
-
   pub done-accepted : checkAnswer c h roots support ≡ Done → Accepted c h
   unfolding checkAnswer checkFault codeFault
   done-accepted e = accepted lent c h (done-zero (checkFault c h roots support) e) .1
-
-  done-lengths : checkAnswer c h roots support ≡ Done → (length roots ≡ c .n) × (length support ≡ c .n)
-  unfolding checkAnswer checkFault codeFault
-  done-lengths e =
-      let b = accepted lent c h (done-zero (checkFault c h roots support) e) .0 in
-      let (r, s) = both-true (eqb (length roots) (c .n)) (eqb (length support) (c .n)) b in
-      (eqb-true (length roots) (c .n) r, eqb-true (length support) (c .n) s)
 
   pub accepted-done : length roots ≡ c .n → length support ≡ c .n → Accepted c h → checkAnswer c h roots support ≡ Done
   unfolding checkAnswer checkFault codeFault unless-refused
@@ -112,11 +91,3 @@ module _ (c : Parameters) (h roots support : List ℕ) where
   done-short e =
       cauchy-short (c .m) (c .n) (entryOf h) (rootAt (gf (c .m)) (c .omega) (entryOf h)) (supportAt (gf (c .m)) (c .omega) (entryOf h))
       (accepted-pair (done-accepted e))
-
--- ---- "for every offset"
-
-pub every-offset : (c : Parameters) (ω : ℕ) (h roots support : List ℕ) → ω < 2 ^ c .m → checkAnswer c h roots support ≡ Done
-    → checkAnswer (withOffset c ω) h roots support ≡ Done
-every-offset c ω h roots support l e =
-    let (r, s) = done-lengths c h roots support e in
-    accepted-done (withOffset c ω) h roots support r s (offset-accepted ω l (done-accepted c h roots support e))

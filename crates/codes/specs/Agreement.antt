@@ -8,7 +8,8 @@ use native.Mathlib.Omega.{arith}
 use Rattle.refusals.specs.Rules.{unless-refused}
 use Rattle.params.specs.declared.Parameters.{Parameters}
 use Rattle.codes.specs.declared.Sameness.the-variants.{Same, Refused}
-use Rattle.params.specs.Code.{Accepted, accepts, codeFault}
+use Rattle.params.specs.Accepted.{accepts}
+use Rattle.params.specs.Code.{Accepted, codeFault}
 use Rattle.codes.specs.Same.{sameCode, Agree, sameCode-is}
 use Rattle.codes.specs.Answers.{lowest, compared, sameFault, sameAnswer}
 

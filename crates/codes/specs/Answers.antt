@@ -12,7 +12,7 @@ use Rattle.refusals.specs.declared.Outcome.the-variants.{Done, Refused}
 use Rattle.params.specs.declared.Parameters.{Parameters}
 use Rattle.codes.specs.declared.Sameness.{Sameness}
 use Rattle.codes.specs.declared.Sameness.the-variants.{Same, Different, Refused as NotCompared}
-use Rattle.signature.specs.Existence.{rootAt, supportAt}
+use Rattle.signature.specs.Signature.{rootAt, supportAt}
 use Rattle.algebra.specs.Lists.{entryOf}
 use Rattle.params.specs.Code.{codeFault}
 use Rattle.codes.specs.Same.{sameCode}

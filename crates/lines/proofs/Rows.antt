@@ -9,7 +9,8 @@ use Rattle.algebra.specs.Places.{count, count-le}
 use Rattle.algebra.specs.Tabulate.{tabulate}
 use Rattle.slices.specs.Lengths.{longest}
 use Rattle.params.specs.declared.Parameters.{Parameters}
-use Rattle.params.specs.Code.{Accepted, n-short}
+use Rattle.params.specs.Accepted.{n-short}
+use Rattle.params.specs.Code.{Accepted}
 use Rattle.signature.specs.Inverses.{Inverted}
 use Rattle.signature.specs.Tests.{added}
 use Rattle.signature.proofs.Stored.{support-is}

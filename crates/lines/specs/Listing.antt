@@ -8,7 +8,7 @@ use Rattle.algebra.specs.Tabulate.{tabulate}
 use Rattle.field.specs.Gf.{gf}
 use Rattle.slices.specs.Lengths.{longest}
 use Rattle.params.specs.declared.Parameters.{Parameters}
-use Rattle.signature.specs.Existence.{supportAt}
+use Rattle.signature.specs.Signature.{supportAt}
 use Rattle.parity.specs.Columns.{rolesOf, messageLength}
 use Rattle.parity.specs.Word.{whole}
 use Rattle.fields.specs.Fields.{joined, lineText, lineLength}

@@ -9,7 +9,7 @@ use lib.Dec.{leb}
 use lib.ListN.{length}
 use borrow.Author.Tests.{leb-true, leb-false, lt-leb, le-leb}
 use Rattle.refusals.specs.Rules.{fault-here, fault-past, fault-empty, refuse, accept}
-use Rattle.params.specs.Code.{n-short}
+use Rattle.params.specs.Accepted.{n-short}
 use Rattle.fields.specs.Fields.{lineText}
 use Rattle.fields.specs.Reading.{length-line}
 use Rattle.fields.specs.Written.{over}

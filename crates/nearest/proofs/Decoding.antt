@@ -19,9 +19,8 @@ use Rattle.slices.specs.Bits.{IsBits}
 use Rattle.slices.specs.Elements.{Elements}
 use Rattle.slices.specs.Lengths.{longest}
 use Rattle.params.specs.declared.Parameters.{Parameters}
-use Rattle.params.specs.Accepted.{accepted-pair}
-use Rattle.params.specs.Code.{n-short, t-short}
-use Rattle.signature.specs.Existence.{rootAt, supportAt}
+use Rattle.params.specs.Accepted.{accepted-pair, n-short, t-short}
+use Rattle.signature.specs.Signature.{rootAt, supportAt}
 use Rattle.signature.specs.Inverses.{Inverted}
 use Rattle.signature.specs.Tests.{added}
 use Rattle.signature.proofs.Stored.{roots-are, support-is}

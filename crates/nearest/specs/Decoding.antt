@@ -12,7 +12,7 @@ use Rattle.algebra.specs.Places.{count}
 use Rattle.field.specs.Gf.{gf}
 use Rattle.slices.specs.Bits.{IsBits}
 use Rattle.params.specs.declared.Parameters.{Parameters}
-use Rattle.signature.specs.Existence.{rootAt}
+use Rattle.signature.specs.Signature.{rootAt}
 use Rattle.signature.specs.Inverses.{Inverted}
 use Rattle.parity.specs.Selected.{OnColumns}
 use Rattle.parity.specs.Word.{syndromeAt}

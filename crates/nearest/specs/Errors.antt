@@ -24,7 +24,7 @@ use Rattle.slices.specs.Bits.{IsBits}
 use Rattle.params.specs.declared.Parameters.{Parameters}
 use Rattle.params.specs.Accepted.{accepted-pair}
 use Rattle.params.specs.Code.{Accepted}
-use Rattle.signature.specs.Existence.{rootAt, supportAt}
+use Rattle.signature.specs.Signature.{rootAt, supportAt}
 use Rattle.parity.specs.Selected.{Selected}
 use Rattle.parity.specs.Word.{parityAt, held, syndromeAt, isCodeWord}
 use Rattle.nearest.specs.Places.{place, place-is, place-distinct, sum-places}

@@ -21,7 +21,7 @@ use Rattle.field.specs.Gf.{gf}
 use Rattle.slices.specs.Bits.{IsBits}
 use Rattle.params.specs.declared.Parameters.{Parameters}
 use Rattle.params.specs.Code.{Accepted}
-use Rattle.signature.specs.Existence.{supportAt}
+use Rattle.signature.specs.Signature.{supportAt}
 use Rattle.parity.specs.Selected.{Selected}
 use Rattle.parity.specs.Word.{syndromeAt, isCodeWord}
 use Rattle.nearest.specs.Errors.{z, L, errorPlace, F, in-support, apart, same-place, explains}

@@ -15,7 +15,8 @@ use Rattle.field.specs.Range.{isWidth, width-is, isElement}
 use Rattle.slices.specs.Lengths.{longest, isPower, power-is}
 use Rattle.slices.specs.Elements.{allElements, elements-are}
 use Rattle.params.specs.declared.Parameters.{Parameters}
-use Rattle.params.specs.Code.{isLength, isRootCount, shapeRules, codeRules, power-short, codeFault}
+use Rattle.params.specs.Accepted.{power-short}
+use Rattle.params.specs.Code.{isLength, isRootCount, shapeRules, codeRules, codeFault}
 use Rattle.signature.specs.Tests.{signatureRules}
 use Rattle.signature.specs.Inverses.{Entries}
 

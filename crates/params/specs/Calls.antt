@@ -7,7 +7,8 @@ use Prim.Native.Nat.{ℕ}
 use Rattle.refusals.specs.Ending.{first-refuses, second-decides}
 use Rattle.refusals.specs.Rules.{Rule, fault, fault-rest, unless-refused}
 use Rattle.params.specs.declared.Parameters.{Parameters}
-use Rattle.params.specs.Code.{codeFault, Accepted, codeRules, code-numbered, accepted, accepts}
+use Rattle.params.specs.Accepted.{code-numbered, accepted, accepts}
+use Rattle.params.specs.Code.{codeFault, Accepted, codeRules}
 
 -- `buffers` says that the lent buffers have their lengths, and k is the number that was found for the code
 module _ (buffers : Bool) (c : Parameters) (h : List ℕ) {k : ℕ} (found : k ≡ codeFault buffers c h) where

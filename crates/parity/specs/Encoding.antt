@@ -23,7 +23,7 @@ use Rattle.algebra.specs.Xor.{_⊕_}
 use Rattle.field.specs.Gf.{Width, gf, gf-laws}
 use Rattle.slices.specs.Bits.{Bits, bits-anywhere, IsBits}
 use Rattle.params.specs.declared.Parameters.{Parameters}
-use Rattle.signature.specs.Existence.{rootAt, supportAt}
+use Rattle.signature.specs.Signature.{rootAt, supportAt}
 use Rattle.algebra.specs.Lists.{entryOf, sameList, sameList-is}
 use Rattle.parity.specs.Word.{parityAt, held, syndromeAt, isCodeWord}
 use Rattle.parity.specs.Columns.{wordOf, isSum, isMessageColumn, dimension, messageOf, encodingOf}

@@ -17,8 +17,8 @@ use Rattle.slices.specs.Bits.{Bits}
 use Rattle.slices.specs.Elements.{Elements}
 use Rattle.basis.specs.Table.{Reaches}
 use Rattle.params.specs.declared.Parameters.{Parameters}
-use Rattle.params.specs.Accepted.{accepted-pair}
-use Rattle.params.specs.Code.{Accepted, index-below}
+use Rattle.params.specs.Accepted.{accepted-pair, index-below}
+use Rattle.params.specs.Code.{Accepted}
 use Rattle.parity.specs.Selected.{Selected}
 use Rattle.parity.specs.Word.{parityAt, held, syndromeAt}
 

@@ -10,7 +10,8 @@ use Rattle.algebra.specs.Poly.{Distinct}
 use Rattle.algebra.specs.Tabulate.{length-tabulate, getD-tabulate}
 use Rattle.params.specs.declared.Parameters.{Parameters}
 use Rattle.slices.specs.Lengths.{longest}
-use Rattle.params.specs.Code.{Accepted, n-short}
+use Rattle.params.specs.Accepted.{n-short}
+use Rattle.params.specs.Code.{Accepted}
 use Rattle.parity.specs.Word.{whole}
 
 pub record Selected (n : ℕ) (cols : List ℕ) : Type 0 where

@@ -11,7 +11,8 @@ use Rattle.refusals.specs.Ending.{Ended}
 use Rattle.refusals.specs.Rules.{Rule, fault, unless-refused}
 use Rattle.slices.specs.Lengths.{longest}
 use Rattle.params.specs.declared.Parameters.{Parameters}
-use Rattle.params.specs.Code.{codeFault, Accepted, codeRules, n-short}
+use Rattle.params.specs.Accepted.{n-short}
+use Rattle.params.specs.Code.{codeFault, Accepted, codeRules}
 use Rattle.params.specs.Calls.{code-refuses, code-accepted, code-passes}
 use Rattle.parity.specs.Selected.{OnColumns, length-whole, whole-selected}
 use Rattle.parity.specs.Word.{whole}

@@ -16,7 +16,7 @@ use Rattle.field.specs.Gf.{gf}
 use Rattle.field.specs.Product.{inverse}
 use Rattle.field.specs.Words.{word}
 use Rattle.params.specs.declared.Parameters.{Parameters}
-use Rattle.signature.specs.Existence.{rootAt, supportAt}
+use Rattle.signature.specs.Signature.{rootAt, supportAt}
 
 -- the columns of the whole code
 unfoldable pub whole : ℕ → List ℕ

@@ -20,8 +20,8 @@ use Rattle.nearest.specs.Search.{near, repairable, distance-self}
 use Rattle.nearest.specs.Turned.{length-turned, turned-bits}
 use Rattle.repair.specs.declared.Recovery.{Recovery}
 use Rattle.repair.specs.declared.Recovery.the-variants.{Repaired, Refused}
-use Rattle.repair.specs.Answers.{wordRules, turnedCount, wordAnswer, wordAfter}
-use Rattle.repair.specs.Decoding.{Decoded}
+use Rattle.repair.specs.Answers.{wordRules, turnedCount}
+use Rattle.repair.specs.Decoding.{wordAnswer, wordAfter, Decoded}
 
 -- ---- how decoding ends
 

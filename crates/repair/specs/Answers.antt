@@ -26,12 +26,6 @@ module _ (c : Parameters) (h cols received : List ℕ) where
   unfoldable pub turnedCount : ℕ
   turnedCount = distance (length cols) received (repairedOf c h cols received)
 
-  unfoldable pub wordAnswer : Recovery
-  wordAnswer = unless-refused (fault wordRules) Refused (Repaired turnedCount)
-
-  unfoldable pub wordAfter : List ℕ → List ℕ
-  wordAfter repaired = unless-refused (fault wordRules) (λ k. repaired) (repairedOf c h cols received)
-
 -- ---- the call: the places of a word are the columns of the whole code
 
 module _ (c : Parameters) (h received repaired : List ℕ) where

@@ -12,8 +12,7 @@ ghost use mathlib.Core.Path.{_≡_};
 ghost use lib.ListN.{length};
 ghost use Rattle.signature.specs.Inverses.{Inverted};
 ghost use Rattle.parity.specs.Selected.{OnColumns};
-ghost use Rattle.repair.specs.Answers.{wordAnswer, wordAfter};
-ghost use Rattle.repair.specs.Decoding.{Decoded};
+ghost use Rattle.repair.specs.Decoding.{wordAnswer, wordAfter, Decoded};
 
 // Repair into `word`, which is used as room where there is none: 8, 10, or the number of places turned. A code word needs no locator. What the pass
 // finds is the repair if few places were turned and it is a code word, and else there is none.

@@ -19,14 +19,14 @@ use Rattle.parity.specs.Columns.{dimension, messageOf, encodingOf}
 use Rattle.nearest.specs.Repair.{repairedOf}
 use Rattle.repair.specs.declared.Recovery.{Recovery}
 use Rattle.repair.specs.declared.Recovery.the-variants.{Repaired, Refused as NotRepaired}
-use Rattle.repair.specs.Answers.{wordRules, turnedCount, wordAnswer}
-use Rattle.repair.specs.Decoding.{Decoded}
+use Rattle.repair.specs.Answers.{wordRules, turnedCount}
+use Rattle.repair.specs.Decoding.{wordAnswer, Decoded}
 use Rattle.gears.specs.Rows.{isRow, rowBits, rowMessage, gearIn, lampIn, isRowMessage, rowOf}
 use Rattle.gears.specs.Messages.{length-message, message-bits}
 use Rattle.rows.specs.declared.Reading.{Reading}
 use Rattle.rows.specs.declared.Reading.the-variants.{Read, Refused as NotRead}
-use Rattle.rows.specs.Answers.{writeRules, rowWord, carried, readRules, rowRead, readingAnswer, readingAfter}
-use Rattle.rows.specs.Parts.{refusalOf, carriedAnswer, carriedAfter}
+use Rattle.rows.specs.Answers.{writeRules, rowWord, carried, readRules, rowRead}
+use Rattle.rows.specs.Parts.{readingAnswer, readingAfter, refusalOf, carriedAnswer, carriedAfter}
 
 -- ---- the parts of the arrays that are lent
 

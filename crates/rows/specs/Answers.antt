@@ -40,12 +40,6 @@ module _ (c : Parameters) (h cols : List ℕ) where
     unfoldable pub rowRead : Reading
     rowRead = Read (rowOf (gearIn carried) (lampIn carried)) (turnedCount c h cols received)
 
-    unfoldable pub readingAnswer : Reading
-    readingAnswer = unless-refused (fault readRules) NotRead rowRead
-
-    unfoldable pub readingAfter : List ℕ → List ℕ
-    readingAfter repaired = unless-refused (fault readRules) (λ k. repaired) (repairedOf c h cols received)
-
 -- ---- the calls: the places of a word are the columns of the whole code
 
 module _ (c : Parameters) (h : List ℕ) where

@@ -17,7 +17,8 @@ use Rattle.refusals.specs.declared.Outcome.the-variants.{Done, Refused}
 use Rattle.slices.specs.Bits.{Bits, allBits, IsBits, received-bits, all-bits}
 use Rattle.params.specs.declared.Parameters.{Parameters}
 use Rattle.params.specs.Calls.{code-leaves}
-use Rattle.params.specs.Code.{Accepted, codeRules, accepted}
+use Rattle.params.specs.Accepted.{accepted}
+use Rattle.params.specs.Code.{Accepted, codeRules}
 use Rattle.parity.specs.Columns.{isMessageColumn, dimension, messageOf, encodingOf, messageLength}
 use Rattle.parity.specs.Encoding.{encoding-carries, encoding-only}
 use Rattle.parity.specs.Selected.{Selected, length-whole, whole-selected}
@@ -31,7 +32,8 @@ use Rattle.gears.specs.Rows.{isRow, rowBits, rowMessage, gearIn, lampIn, furthe
 use Rattle.gears.specs.Messages.{row-lamp, lamp-number, length-message, message-bits, message-gear, message-lamp, message-is-row, message-only}
 use Rattle.rows.specs.declared.Reading.{Reading}
 use Rattle.rows.specs.declared.Reading.the-variants.{Read, Refused as NotRead}
-use Rattle.rows.specs.Answers.{writeRules, rowWord, carried, readRules, rowRead, readingAnswer, readingAfter}
+use Rattle.rows.specs.Answers.{writeRules, rowWord, carried, readRules, rowRead}
+use Rattle.rows.specs.Parts.{readingAnswer, readingAfter}
 use Rattle.rows.specs.Answers.{writeFault, writeAnswer, writeAfter, readFault, readAnswer, readAfter}
 
 -- ---- rules

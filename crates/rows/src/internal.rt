@@ -27,8 +27,8 @@ ghost use Rattle.signature.specs.Inverses.{Inverted};
 ghost use Rattle.basis.specs.Table.{freeAt, freeCount, Form, Carried};
 ghost use Rattle.parity.specs.Selected.{OnColumns};
 ghost use Rattle.gears.specs.Rows.{rowBits, rowMessage};
-ghost use Rattle.rows.specs.Answers.{writeRules, rowWord, readingAnswer, readingAfter};
-ghost use Rattle.rows.specs.Parts.{refusalOf, carriedAnswer, carriedAfter};
+ghost use Rattle.rows.specs.Answers.{writeRules, rowWord};
+ghost use Rattle.rows.specs.Parts.{readingAnswer, readingAfter, refusalOf, carriedAnswer, carriedAfter};
 
 // The word of a row into `word`, or 12 or 11.
 pub fn write(

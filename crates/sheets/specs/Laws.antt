@@ -5,7 +5,8 @@ use mathlib.Core.List.{List}
 use Prim.Native.Nat.{ℕ}
 use lib.Dec.{T}
 use Rattle.refusals.specs.Rules.{fault-past, numbered, hold}
-use Rattle.params.specs.Code.{Accepted, accepted, code-numbered}
+use Rattle.params.specs.Accepted.{accepted, code-numbered}
+use Rattle.params.specs.Code.{Accepted}
 use Rattle.sheets.specs.Sheet.{sheetParameters, sheetH, isSheet}
 use Rattle.sheets.specs.Fault.{sheetRules, sheetFault}
 

@@ -8,7 +8,7 @@ use Rattle.algebra.specs.Lists.{entryOf}
 use Rattle.algebra.specs.Tabulate.{tabulate, tabulate-cong}
 use Rattle.algebra.specs.Xor.{_⊕_, ⊕-assoc}
 use Rattle.field.specs.Gf.{gf}
-use Rattle.signature.specs.Existence.{rootAt, supportAt}
+use Rattle.signature.specs.Signature.{rootAt, supportAt}
 use Rattle.signature.specs.Tests.{added, inverseAt}
 use Rattle.signature.specs.Inverses.{Inverted}
 

@@ -9,15 +9,7 @@ use native.Mathlib.Omega.{arith}
 use Rattle.algebra.specs.Field.{Ops, Laws, ring, add-eq, inv-unique, inv≢nought}
 use Rattle.algebra.specs.Poly.{Distinct}
 use Rattle.algebra.specs.Xor.{_⊕_, ⊕-lt, ⊕-zero, zero-⊕}
-use Rattle.signature.specs.Signature.{Conditions, Cauchy, HasCauchy}
-
--- 01: "z_i = 1/h_i + ω"
-unfoldable pub rootAt : {A : Type 0} → Ops A → A → (ℕ → A) → ℕ → A
-rootAt K ω h i = K .add (K .inv (h i)) ω
-
--- 01: "L_j = 1/h_j + 1/h_0 + ω"
-unfoldable pub supportAt : {A : Type 0} → Ops A → A → (ℕ → A) → ℕ → A
-supportAt K ω h j = K .add (K .add (K .inv (h j)) (K .inv (h 0))) ω
+use Rattle.signature.specs.Signature.{rootAt, supportAt, Conditions, Cauchy, HasCauchy}
 
 module _ {A : Type 0} (K : Ops A) (F : Laws K) where
   infixl 65 _+_

@@ -1,5 +1,6 @@
 -- Demand 2: "a signature is accepted exactly if two disjoint sequences of distinct field elements exist whose Cauchy matrix is its dyadic
--- matrix". This file says both sides of that sentence, over any field of characteristic two; Existence shows that they are the same.
+-- matrix". This file says both sides of that sentence, over any field of characteristic two, and which pair comes back; Existence shows that the
+-- sides are the same.
 --
 -- K is the field; a signature h of n elements is an index function, h i being its entry i. Its dyadic matrix has the entry h (i ⊕ j) at i, j,
 -- and the Cauchy matrix of z and L has 1/(z i + L j) there. What h, z and L are from n on is not looked at.
@@ -9,6 +10,14 @@ use Prim.Native.Nat.{ℕ, _<_}
 use Rattle.algebra.specs.Field.{Ops}
 use Rattle.algebra.specs.Poly.{Distinct}
 use Rattle.algebra.specs.Xor.{_⊕_}
+
+-- 01: "z_i = 1/h_i + ω"
+unfoldable pub rootAt : {A : Type 0} → Ops A → A → (ℕ → A) → ℕ → A
+rootAt K ω h i = K .add (K .inv (h i)) ω
+
+-- 01: "L_j = 1/h_j + 1/h_0 + ω"
+unfoldable pub supportAt : {A : Type 0} → Ops A → A → (ℕ → A) → ℕ → A
+supportAt K ω h j = K .add (K .add (K .inv (h j)) (K .inv (h 0))) ω
 
 -- 01: "no entry is zero"
 abbrev pub NoZero : {A : Type 0} → Ops A → ℕ → (ℕ → A) → Type 0

@@ -33,11 +33,11 @@ fn place(message: &[u8], leads: &[u8], word: &mut [u8])
     ensures { λ _. ⌜ now (word .exit) ≡ placedAt (length (now (word .entry))) (now (leads .entry)) (now (message .entry)) ⌝ }
 {
     let mut taken = 0;
-    for p in 0..word.len() {
-        if leads[p] == 1 {
-            word[p] = 0;
+    for j in 0..word.len() {
+        if leads[j] == 1 {
+            word[j] = 0;
         } else {
-            word[p] = message[taken];
+            word[j] = message[taken];
             taken += 1;
         }
     }

@@ -6,7 +6,7 @@ use native.Mathlib.Nat.{mod-eq-of-lt}
 use native.Mathlib.Omega.{arith}
 use Rattle.slices.specs.Lengths.{longest}
 use Rattle.params.specs.declared.Parameters.{Parameters}
-use Rattle.params.specs.Code.{n-short}
+use Rattle.params.specs.Accepted.{n-short}
 use Rattle.gears.specs.declared.Row.{Row}
 use Rattle.gears.specs.Messages.{row-gear, row-lamp}
 use Rattle.gears.specs.Rows.{lampNumber}

@@ -8,7 +8,7 @@ use Rattle.algebra.specs.Tabulate.{tabulate}
 use Rattle.refusals.specs.Rules.{refuse, accept}
 use Rattle.refusals.specs.declared.Outcome.the-variants.{Refused}
 use Rattle.signature.specs.Tests.{added}
-use Rattle.params.specs.Code.{n-short}
+use Rattle.params.specs.Accepted.{n-short}
 use Rattle.codes.specs.Answers.{checkFault, checkAnswer, rootsAfter, supportAfter}
 use Rattle.params.proofs.Stored.{offset-fits}
 use Rattle.signature.proofs.Stored.{roots-are, support-is}

@@ -1,7 +1,7 @@
 -- `code_roles` meets its contract: its columns are the whole code's.
 use mathlib.Core.Path.{refl, ap, _∙_}
 use native.Mathlib.Omega.{arith}
-use Rattle.params.specs.Code.{n-short}
+use Rattle.params.specs.Accepted.{n-short}
 use Rattle.parity.specs.Columns.{rolesOf, dimension}
 use Rattle.parity.specs.Whole.{on-whole, as-long}
 use borrow.Author.Needs.{needs}

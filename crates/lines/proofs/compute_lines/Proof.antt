@@ -1,7 +1,7 @@
 -- `compute_lines` meets its contract: what it computes is the listing's.
 use mathlib.Core.Path.{_∙_}
 use native.Mathlib.Omega.{arith}
-use Rattle.params.specs.Code.{n-short}
+use Rattle.params.specs.Accepted.{n-short}
 use Rattle.params.proofs.Stored.{offset-fits}
 use Rattle.lines.proofs.Rows.{k-small, support-held, listing-written}
 use borrow.Author.Needs.{needs}

@@ -1,6 +1,6 @@
 -- `write_listing` meets its contract.
 use mathlib.Core.Path.{sym}
-use Rattle.params.specs.Code.{n-short}
+use Rattle.params.specs.Accepted.{n-short}
 use Rattle.lines.proofs.Rows.{n-taken}
 use borrow.Author.Needs.{needs}
 use Rattle.lines.proofs.write_listing.Statement.{statement}

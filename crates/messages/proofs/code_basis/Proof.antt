@@ -1,6 +1,6 @@
 -- `code_basis` meets its contract.
 use native.Mathlib.Omega.{arith}
-use Rattle.params.specs.Code.{n-short, t-short}
+use Rattle.params.specs.Accepted.{n-short, t-short}
 use Rattle.parity.specs.Parity.{reaches}
 use Rattle.messages.proofs.Meaning.{code-basis-is, rank-le}
 use borrow.Author.Needs.{needs}

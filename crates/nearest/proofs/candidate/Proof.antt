@@ -6,7 +6,7 @@ use native.Mathlib.Omega.{arith}
 use lib.ListN.{replicate}
 use lib.Seq.{length-take-le}
 use Rattle.slices.specs.Lengths.{longest}
-use Rattle.params.specs.Code.{n-short}
+use Rattle.params.specs.Accepted.{n-short}
 use Rattle.nearest.proofs.Decoding.{roots-short}
 use borrow.Author.Needs.{needs}
 use Rattle.nearest.proofs.candidate.Statement.{statement}

@@ -1,7 +1,7 @@
 -- `whole_code_inverses` meets its contract: the code's number, and the columns numbered where it is 0.
 use native.Mathlib.Omega.{arith}
 use Rattle.params.specs.Calls.{code-accepted}
-use Rattle.params.specs.Code.{n-short}
+use Rattle.params.specs.Accepted.{n-short}
 use borrow.Author.Needs.{needs}
 use Rattle.parity.proofs.whole_code_inverses.Statement.{statement}
 use Rattle.parity.proofs.whole_code_inverses.Tie as tie

@@ -9,7 +9,8 @@ use Rattle.refusals.specs.Rules.{Rule}
 use Rattle.parity.specs.Whole.{whole-refuses, whole-accepted, whole-short, whole-columns, whole-long, whole-passes}
 use Rattle.nearest.specs.Repair.{repairedOf}
 use Rattle.repair.specs.declared.Recovery.the-variants.{Repaired, Refused}
-use Rattle.repair.specs.Answers.{wordRules, turnedCount, wordAnswer, wordAfter, repairFault, repairAnswer, repairAfter}
+use Rattle.repair.specs.Answers.{wordRules, turnedCount, repairFault, repairAnswer, repairAfter}
+use Rattle.repair.specs.Decoding.{wordAnswer, wordAfter}
 use borrow.Author.Needs.{needs}
 use Rattle.repair.proofs.repair.Statement.{statement}
 use Rattle.repair.proofs.repair.Tie as tie

@@ -9,7 +9,8 @@ use Rattle.refusals.specs.Rules.{Rule}
 use Rattle.parity.specs.Whole.{whole-refuses, whole-accepted, whole-short, whole-columns, whole-long, whole-passes}
 use Rattle.nearest.specs.Repair.{repairedOf}
 use Rattle.rows.specs.declared.Reading.the-variants.{Refused}
-use Rattle.rows.specs.Answers.{readRules, rowRead, readingAnswer, readingAfter, readFault, readAnswer, readAfter}
+use Rattle.rows.specs.Answers.{readRules, rowRead, readFault, readAnswer, readAfter}
+use Rattle.rows.specs.Parts.{readingAnswer, readingAfter}
 use borrow.Author.Needs.{needs}
 use Rattle.rows.proofs.read_row.Statement.{statement}
 use Rattle.rows.proofs.read_row.Tie as tie

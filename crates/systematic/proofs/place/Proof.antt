@@ -14,10 +14,10 @@ use Rattle.systematic.proofs.place.Statement.{statement}
 use Rattle.systematic.proofs.place.Tie as tie
 
 abbrev Inv-loop : tie.InvT-loop
-Inv-loop message leads word₀ taken₀ p₀ p-end word taken p = (p-end ≡ length word₀) × Placing message leads word₀ word taken p
+Inv-loop message leads word₀ taken₀ j₀ j-end word taken j = (j-end ≡ length word₀) × Placing message leads word₀ word taken j
 
 abbrev μ-loop : tie.MeasureT-loop
-μ-loop message leads word₀ taken₀ p₀ p-end word taken p = length word₀ - p
+μ-loop message leads word₀ taken₀ j₀ j-end word taken j = length word₀ - j
 
 loop-holds : tie.Need-loop-holds Inv-loop μ-loop
 loop-holds c = (refl, place-start (c .args .message .now) (c .args .leads .now) (c .args .word .now))
@@ -39,8 +39,8 @@ slice-write-word-2 c = filling-index (c .before .before .before .before .loop .i
 add-taken : tie.Need-add-taken Inv-loop μ-loop
 add-taken c = omega (arith, shared-slice-read-word c)
 
-add-p : tie.Need-add-p Inv-loop μ-loop
-add-p c = search needs
+add-j : tie.Need-add-j Inv-loop μ-loop
+add-j c = search needs
 
 loop-less : tie.Need-loop-less Inv-loop μ-loop
 loop-less c = search needs
@@ -50,8 +50,8 @@ loop-again c =
     let leads = c .before .before .before .before .args .leads .now in
     let l = c .before .before .before .loop in (
       refl,
-      ⊎-elim (λ w. place-turn (l .inv .1) (omega arith) false (led leads (l .p) (w .0 .taken)) (w .1) (w .2))
-          (λ w. place-turn (l .inv .1) (omega arith) true (free leads (l .p) (w .0 .left)) (w .2) (w .3)) (c .if1 .came),
+      ⊎-elim (λ w. place-turn (l .inv .1) (omega arith) false (led leads (l .j) (w .0 .taken)) (w .1) (w .2))
+          (λ w. place-turn (l .inv .1) (omega arith) true (free leads (l .j) (w .0 .left)) (w .2) (w .3)) (c .if1 .came),
     )
 
 same-length : tie.Need-same-length Inv-loop μ-loop
@@ -73,7 +73,7 @@ place-spec =
     shared-slice-read-word
     slice-write-word-2
     add-taken
-    add-p
+    add-j
     loop-less
     loop-again
     same-length

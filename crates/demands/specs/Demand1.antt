@@ -1,0 +1,312 @@
+-- Demand 1: "The buffers that a caller lends are written only by a call that succeeds. Every call ends, for all inputs, and a fault in the input brings
+-- back its number from the table in 01 with each buffer unchanged."
+--
+-- That every call ends is part of its proof. Of each call there is said here that a refusal leaves each buffer as it was (`..-unchanged`); and that it
+-- gives its value exactly if all its rules hold, and is refused otherwise by the lowest number that applies (`..-refuses`). The rules of five calls come in
+-- parts, since 01 has exceptions from the lowest number: 12 comes after 7 and before all others (`write-row`, `read-row`), the 2 of a message's length
+-- comes after 7 and before 8 (`encode`, `message`), and 13 comes first, and the 2 of a short buffer last, for a sheet (`listing`).
+use mathlib.Core.Path.{_≡_, refl, sym, ap₂, subst}
+use mathlib.Core.Logic.{_≢_, _↔_, _⊎_, inl, inr}
+use mathlib.Core.Bool.{true, not, _&&_}
+use mathlib.Core.List.{List, [], _∷_, _++_}
+use Prim.Native.Nat.{ℕ, zero, suc, min, _<_, _≤_}
+use native.Mathlib.Decide.{decLt}
+use native.Mathlib.Omega.{arith}
+use lib.Dec.{eqb, leb}
+use lib.ListN.{length}
+use Rattle.algebra.specs.Xor.{_⊕_}
+use Rattle.refusals.specs.declared.Counted.the-variants.{Count, Refused as NotCounted}
+use Rattle.refusals.specs.declared.Outcome.the-variants.{Done, Refused}
+use Rattle.refusals.specs.Rules.{Rule, _unless_, Hold, fault, fault-none, hold, unless-refused, given}
+use Rattle.field.specs.declared.Answer.the-variants.{Element, Refused as NoElement}
+use Rattle.field.specs.Answers.{elementRules, pairFault, sumAnswer, productAnswer, inverseFault, inverseAnswer}
+use Rattle.field.specs.Product.{product, inverse}
+use Rattle.field.specs.Range.{isElement}
+use Rattle.field.specs.Words.{word}
+use Rattle.slices.specs.Bits.{allBits}
+use Rattle.blocks.specs.Answers.{sizeRules, blockRules, pairRules, inverseRules, pairFault as blockPairFault, inverseFault as blockInverseFault}
+use Rattle.blocks.specs.Answers.{sumAnswer as blockSumAnswer, sumAfter, productAnswer as blockProductAnswer, productAfter}
+use Rattle.blocks.specs.Answers.{inverseAnswer as blockInverseAnswer, inverseAfter}
+use Rattle.params.specs.declared.Parameters.{Parameters}
+use Rattle.params.specs.Code.{shapeRules, codeRules, codeFault}
+use Rattle.signature.specs.Tests.{signatureRules}
+use Rattle.codes.specs.declared.Sameness.the-variants.{Refused as NotCompared}
+use Rattle.codes.specs.Answers.{checkFault, checkAnswer, rootsAfter, supportAfter, lowest as lower, compared, sameFault, sameAnswer}
+use Rattle.codes.specs.Same.{sameCode}
+use Rattle.parity.specs.Columns.{messageLength}
+use Rattle.parity.specs.Word.{whole}
+use Rattle.messages.specs.MessageRules.{messageRules}
+use Rattle.words.specs.Answers.{bitRules, rolesFault, rolesAnswer, rolesAfter, syndromeFault, syndromeAnswer, syndromeAfter}
+use Rattle.words.specs.Answers.{encodeFault, encodeAnswer, encodeAfter, messageFault, messageAnswer, messageAfter}
+use Rattle.gears.specs.Rows.{isRow, rowBits, isRowMessage}
+use Rattle.repair.specs.declared.Recovery.the-variants.{Repaired, Refused as NotRepaired}
+use Rattle.repair.specs.Answers.{wordRules, turnedCount, repairFault, repairAnswer, repairAfter}
+use Rattle.rows.specs.declared.Reading.the-variants.{Refused as NotRead}
+use Rattle.rows.specs.Answers.{writeRules, carried, readRules, rowRead, writeFault, writeAnswer, writeAfter, readFault, readAnswer, readAfter}
+use Rattle.listing.specs.Answers.{roomRules, sheetListing, listingFault, listingAnswer, listingAfter}
+use Rattle.listing.specs.Answers.{storedAnswer, storedAfter, printedText, printedAnswer, printedAfter}
+use Rattle.sheets.specs.Fault.{sheetRules}
+use Rattle.sheets.specs.Sheet.{sheetParameters, sheetH, isSheet}
+use Rattle.demands.specs.Lowest.{rising, Fails, HoldBelow, Lowest, lowest, rising-numbered, below-fault}
+use Rattle.demands.specs.Lowest.{allRules, risingParts, InOrder, parts-numbered, in-order}
+use Rattle.demands.specs.Outcomes.{value-none, refused-leaves, refused-due, holds-given, done-apart, same-outcome, element-apart, same-element}
+use Rattle.demands.specs.Outcomes.{counted-apart, same-counted, repaired-apart, same-recovery, read-apart, same-reading, compared-apart, same-sameness}
+
+-- a call with these rules has its value exactly if they all hold, and a refusal gives the lowest number that applies
+abbrev pub Refuses : {A : Type 0} → A → (ℕ → A) → A → List Rule → Type 0
+Refuses answer refused value rules = (Hold rules ↔ (answer ≡ value)) × ((k : ℕ) → answer ≡ refused k → Lowest k rules)
+
+-- the same of a call whose rules come in parts
+abbrev pub RefusesInOrder : {A : Type 0} → A → (ℕ → A) → A → List (List Rule) → Type 0
+RefusesInOrder answer refused value parts = (Hold (allRules parts) ↔ (answer ≡ value)) × ((k : ℕ) → answer ≡ refused k → InOrder k parts)
+
+module _ {A : Type 0} (refused : ℕ → A) (value : A) (apart : (k : ℕ) → refused k ≢ value) (same : (i j : ℕ) → refused i ≡ refused j → i ≡ j) where
+  refuses : (rules : List Rule) → rising 1 rules ≡ true → Refuses (unless-refused (fault rules) refused value) refused value rules
+  refuses rules r = (
+    (holds-given rules refused value, λ e. hold rules (rising-numbered 1 rules (omega arith) r) (value-none refused value apart (fault rules) e)),
+    λ k e.
+        let (ne, is) = refused-due refused value apart same (fault rules) e in subst (λ (i : ℕ). Lowest i rules) is (lowest rules r ne),
+  )
+
+  refuses-in-order : (parts : List (List Rule)) → risingParts parts ≡ true
+      → RefusesInOrder (unless-refused (fault (allRules parts)) refused value) refused value parts
+  refuses-in-order parts r = (
+    (
+      holds-given (allRules parts) refused value,
+      λ e. hold (allRules parts) (parts-numbered parts r) (value-none refused value apart (fault (allRules parts)) e),
+    ),
+    λ k e.
+        let (ne, is) = refused-due refused value apart same (fault (allRules parts)) e in
+        subst (λ (i : ℕ). InOrder i parts) is (in-order parts r ne),
+  )
+
+-- ---- elements
+
+module _ (m a b : ℕ) where
+  pub field-sum-refuses : Refuses (sumAnswer m a b) NoElement (Element (a ⊕ b)) (elementRules m a ++ (3 unless isElement m b) ∷ [])
+  unfolding sumAnswer pairFault elementRules
+  field-sum-refuses = refuses NoElement _ (element-apart _) same-element (elementRules m a ++ (3 unless isElement m b) ∷ []) refl
+
+  pub field-product-refuses : Refuses (productAnswer m a b) NoElement (Element (product m (word m) a b))
+      (elementRules m a ++ (3 unless isElement m b) ∷ [])
+  unfolding productAnswer pairFault elementRules
+  field-product-refuses = refuses NoElement _ (element-apart _) same-element (elementRules m a ++ (3 unless isElement m b) ∷ []) refl
+
+module _ (m a : ℕ) where
+  pub field-inverse-refuses : Refuses (inverseAnswer m a) NoElement (Element (inverse m (word m) a)) (elementRules m a ++ (4 unless not (eqb a 0)) ∷ [])
+  unfolding inverseAnswer inverseFault elementRules
+  field-inverse-refuses = refuses NoElement _ (element-apart _) same-element (elementRules m a ++ (4 unless not (eqb a 0)) ∷ []) refl
+
+-- ---- blocks
+
+module _ (m : ℕ) (a b out : List ℕ) where
+  pub block-sum-unchanged : {k : ℕ} → blockSumAnswer m a b out ≡ Refused k → sumAfter m a b out ≡ out
+  unfolding blockSumAnswer sumAfter
+  block-sum-unchanged e = refused-leaves Refused Done done-apart (blockPairFault m a b (length out)) out _ e
+
+  pub block-sum-refuses : Refuses (blockSumAnswer m a b out) Refused Done (pairRules m a b (length out))
+  unfolding blockSumAnswer blockPairFault pairRules sizeRules
+  block-sum-refuses = refuses Refused Done done-apart same-outcome (pairRules m a b (length out)) refl
+
+  pub block-product-unchanged : {k : ℕ} → blockProductAnswer m a b out ≡ Refused k → productAfter m a b out ≡ out
+  unfolding blockProductAnswer productAfter
+  block-product-unchanged e = refused-leaves Refused Done done-apart (blockPairFault m a b (length out)) out _ e
+
+  pub block-product-refuses : Refuses (blockProductAnswer m a b out) Refused Done (pairRules m a b (length out))
+  unfolding blockProductAnswer blockPairFault pairRules sizeRules
+  block-product-refuses = refuses Refused Done done-apart same-outcome (pairRules m a b (length out)) refl
+
+module _ (m : ℕ) (a out : List ℕ) where
+  pub block-inverse-unchanged : {k : ℕ} → blockInverseAnswer m a out ≡ Refused k → inverseAfter m a out ≡ out
+  unfolding blockInverseAnswer inverseAfter
+  block-inverse-unchanged e = refused-leaves Refused Done done-apart (blockInverseFault m a (length out)) out _ e
+
+  pub block-inverse-refuses : Refuses (blockInverseAnswer m a out) Refused Done (inverseRules m a (length out))
+  unfolding blockInverseAnswer blockInverseFault inverseRules blockRules sizeRules
+  block-inverse-refuses = refuses Refused Done done-apart same-outcome (inverseRules m a (length out)) refl
+
+-- ---- codes
+
+module _ (c : Parameters) (h roots support : List ℕ) where
+  pub check-unchanged : {k : ℕ} → checkAnswer c h roots support ≡ Refused k
+      → (rootsAfter c h roots support ≡ roots) × (supportAfter c h roots support ≡ support)
+  unfolding checkAnswer rootsAfter supportAfter
+  check-unchanged e = (
+    refused-leaves Refused Done done-apart (checkFault c h roots support) roots _ e,
+    refused-leaves Refused Done done-apart (checkFault c h roots support) support _ e,
+  )
+
+  pub check-refuses : Refuses (checkAnswer c h roots support) Refused Done
+      (codeRules (eqb (length roots) (c .n) && eqb (length support) (c .n)) c h)
+  unfolding checkAnswer checkFault codeFault codeRules shapeRules signatureRules
+  check-refuses =
+      refuses Refused Done done-apart same-outcome (codeRules (eqb (length roots) (c .n) && eqb (length support) (c .n)) c h) refl
+
+-- the lower of two numbers is one of them, and not above the other
+lower-is : (a b : ℕ) → lower a b ≢ 0
+    → (((lower a b ≡ a) × (a ≢ 0)) ⊎ ((lower a b ≡ b) × (b ≢ 0))) × ((a ≡ 0) ⊎ (lower a b ≤ a)) × ((b ≡ 0) ⊎ (lower a b ≤ b))
+unfolding lower
+lower-is zero b ne = (inr (refl, ne), inl refl, inr (omega arith))
+lower-is (suc a) zero ne = (inl (refl, ne), inr (omega arith), inl refl)
+lower-is (suc a) (suc b) ne = (decided (decLt a b), inr (omega arith), inr (omega arith))
+  where
+    decided : Dec (a < b) → ((min (suc a) (suc b) ≡ suc a) × (suc a ≢ 0)) ⊎ ((min (suc a) (suc b) ≡ suc b) × (suc b ≢ 0))
+    decided (yes l) = inl (omega arith, λ z. omega arith)
+    decided (no nl) = inr (omega arith, λ z. omega arith)
+
+lower-none : (a b : ℕ) → lower a b ≡ 0 → (a ≡ 0) × (b ≡ 0)
+unfolding lower
+lower-none zero b e = (refl, e)
+lower-none (suc a) zero e = absurd (omega arith)
+lower-none (suc a) (suc b) e = absurd (omega arith)
+
+-- `same` has two codes: its number is the lowest that applies to either, "the lowest of both cards"
+module _ (c₁ : Parameters) (h₁ : List ℕ) (c₂ : Parameters) (h₂ : List ℕ) where
+  pub same-accepts : (Hold (codeRules true c₁ h₁) × Hold (codeRules true c₂ h₂)) ↔ (sameAnswer c₁ h₁ c₂ h₂ ≡ compared (sameCode c₁ h₁ c₂ h₂))
+  unfolding sameAnswer sameFault codeFault lower codeRules shapeRules signatureRules
+  same-accepts = (
+    λ holds. given NotCompared _ (ap₂ lower (fault-none (codeRules true c₁ h₁) (holds .0)) (fault-none (codeRules true c₂ h₂) (holds .1))),
+    λ e.
+        let none = value-none NotCompared _ (compared-apart (sameCode c₁ h₁ c₂ h₂)) (lower (fault (codeRules true c₁ h₁)) (fault (codeRules true c₂ h₂))) e in
+        let (p, q) = lower-none (fault (codeRules true c₁ h₁)) (fault (codeRules true c₂ h₂)) none in
+        (hold (codeRules true c₁ h₁) tt p, hold (codeRules true c₂ h₂) tt q),
+  )
+
+  pub same-refuses : (k : ℕ) → sameAnswer c₁ h₁ c₂ h₂ ≡ NotCompared k
+      → (Fails k (codeRules true c₁ h₁) ⊎ Fails k (codeRules true c₂ h₂))
+      × HoldBelow k (codeRules true c₁ h₁) × HoldBelow k (codeRules true c₂ h₂)
+  unfolding sameAnswer sameFault codeFault codeRules shapeRules signatureRules
+  same-refuses k e =
+      let (ne, is) = refused-due NotCompared _ (compared-apart (sameCode c₁ h₁ c₂ h₂)) same-sameness _ e in
+      let (one, p, q) = lower-is (fault (codeRules true c₁ h₁)) (fault (codeRules true c₂ h₂)) ne in
+      subst (λ (i : ℕ). (Fails i (codeRules true c₁ h₁) ⊎ Fails i (codeRules true c₂ h₂))
+      × HoldBelow i (codeRules true c₁ h₁) × HoldBelow i (codeRules true c₂ h₂)) is (
+        either one,
+        below-fault (codeRules true c₁ h₁) refl _ p,
+        below-fault (codeRules true c₂ h₂) refl _ q,
+      )
+    where
+      either : ((lower (fault (codeRules true c₁ h₁)) (fault (codeRules true c₂ h₂)) ≡ fault (codeRules true c₁ h₁)) × (fault (codeRules true c₁ h₁) ≢ 0))
+          ⊎ ((lower (fault (codeRules true c₁ h₁)) (fault (codeRules true c₂ h₂)) ≡ fault (codeRules true c₂ h₂)) × (fault (codeRules true c₂ h₂) ≢ 0))
+          → Fails (lower (fault (codeRules true c₁ h₁)) (fault (codeRules true c₂ h₂))) (codeRules true c₁ h₁)
+          ⊎ Fails (lower (fault (codeRules true c₁ h₁)) (fault (codeRules true c₂ h₂))) (codeRules true c₂ h₂)
+      either (inl (is, ne)) = inl (subst (λ (i : ℕ). Fails i (codeRules true c₁ h₁)) (sym is) (lowest (codeRules true c₁ h₁) refl ne .fails))
+      either (inr (is, ne)) = inr (subst (λ (i : ℕ). Fails i (codeRules true c₂ h₂)) (sym is) (lowest (codeRules true c₂ h₂) refl ne .fails))
+
+-- ---- words
+
+module _ (c : Parameters) (h out : List ℕ) where
+  pub roles-unchanged : {k : ℕ} → rolesAnswer c h out ≡ NotCounted k → rolesAfter c h out ≡ out
+  unfolding rolesAnswer rolesAfter
+  roles-unchanged e = refused-leaves NotCounted _ (counted-apart _) (rolesFault c h out) out _ e
+
+  pub roles-refuses : Refuses (rolesAnswer c h out) NotCounted (Count (messageLength c h)) (codeRules (eqb (length out) (c .n)) c h)
+  unfolding rolesAnswer rolesFault codeRules shapeRules signatureRules
+  roles-refuses = refuses NotCounted _ (counted-apart _) same-counted (codeRules (eqb (length out) (c .n)) c h) refl
+
+module _ (c : Parameters) (h word out : List ℕ) where
+  pub syndrome-unchanged : {k : ℕ} → syndromeAnswer c h word out ≡ Refused k → syndromeAfter c h word out ≡ out
+  unfolding syndromeAnswer syndromeAfter
+  syndrome-unchanged e = refused-leaves Refused Done done-apart (syndromeFault c h word out) out _ e
+
+  pub syndrome-refuses : Refuses (syndromeAnswer c h word out) Refused Done
+      (codeRules (eqb (length word) (c .n) && eqb (length out) (c .t)) c h ++ bitRules word)
+  unfolding syndromeAnswer syndromeFault codeRules shapeRules signatureRules bitRules
+  syndrome-refuses =
+      refuses Refused Done done-apart same-outcome
+      (codeRules (eqb (length word) (c .n) && eqb (length out) (c .t)) c h ++ bitRules word) refl
+
+module _ (c : Parameters) (h message word : List ℕ) where
+  pub encode-unchanged : {k : ℕ} → encodeAnswer c h message word ≡ Refused k → encodeAfter c h message word ≡ word
+  unfolding encodeAnswer encodeAfter
+  encode-unchanged e = refused-leaves Refused Done done-apart (encodeFault c h message word) word _ e
+
+  -- "a wrong one is then 2, before 8"
+  pub encode-refuses : RefusesInOrder (encodeAnswer c h message word) Refused Done
+      (codeRules (eqb (length word) (c .n)) c h ∷ messageRules (messageLength c h) (length message) (allBits message) ∷ [])
+  unfolding encodeAnswer encodeFault codeRules shapeRules signatureRules messageRules
+  encode-refuses =
+      refuses-in-order Refused Done done-apart same-outcome
+      (codeRules (eqb (length word) (c .n)) c h ∷ messageRules (messageLength c h) (length message) (allBits message) ∷ []) refl
+
+  pub message-unchanged : {k : ℕ} → messageAnswer c h word message ≡ Refused k → messageAfter c h word message ≡ message
+  unfolding messageAnswer messageAfter
+  message-unchanged e = refused-leaves Refused Done done-apart (messageFault c h word message) message _ e
+
+  pub message-refuses : RefusesInOrder (messageAnswer c h word message) Refused Done
+      (codeRules (eqb (length word) (c .n)) c h ∷ messageRules (messageLength c h) (length message) (allBits word) ∷ [])
+  unfolding messageAnswer messageFault codeRules shapeRules signatureRules messageRules
+  message-refuses =
+      refuses-in-order Refused Done done-apart same-outcome
+      (codeRules (eqb (length word) (c .n)) c h ∷ messageRules (messageLength c h) (length message) (allBits word) ∷ []) refl
+
+-- ---- repair
+
+module _ (c : Parameters) (h received repaired : List ℕ) where
+  pub repair-unchanged : {k : ℕ} → repairAnswer c h received repaired ≡ NotRepaired k → repairAfter c h received repaired ≡ repaired
+  unfolding repairAnswer repairAfter
+  repair-unchanged e = refused-leaves NotRepaired _ (repaired-apart _) (repairFault c h received repaired) repaired _ e
+
+  pub repair-refuses : Refuses (repairAnswer c h received repaired) NotRepaired (Repaired (turnedCount c h (whole (c .n)) received))
+      (codeRules (eqb (length received) (c .n) && eqb (length repaired) (c .n)) c h ++ wordRules c h (whole (c .n)) received)
+  unfolding repairAnswer repairFault codeRules shapeRules signatureRules wordRules
+  repair-refuses =
+      refuses NotRepaired _ (repaired-apart _) same-recovery
+      (codeRules (eqb (length received) (c .n) && eqb (length repaired) (c .n)) c h ++ wordRules c h (whole (c .n)) received) refl
+
+-- ---- gear rows: "12 comes after 7 and before 8"
+
+-- 12 alone, then the others
+abbrev pub writeParts : Parameters → List ℕ → ℕ → ℕ → List (List Rule)
+writeParts c h gear lamp =
+    ((12 unless leb rowBits (messageLength c h)) ∷ []) ∷ ((11 unless isRow gear lamp) ∷ []) ∷ []
+
+abbrev pub readParts : Parameters → List ℕ → List ℕ → List (List Rule)
+readParts c h received =
+    ((12 unless leb rowBits (messageLength c h)) ∷ [])
+    ∷ (wordRules c h (whole (c .n)) received ++ (11 unless isRowMessage (carried c h (whole (c .n)) received)) ∷ []) ∷ []
+
+module _ (c : Parameters) (h : List ℕ) (gear lamp : ℕ) (word : List ℕ) where
+  pub write-row-unchanged : {k : ℕ} → writeAnswer c h gear lamp word ≡ Refused k → writeAfter c h gear lamp word ≡ word
+  unfolding writeAnswer writeAfter
+  write-row-unchanged e = refused-leaves Refused Done done-apart (writeFault c h gear lamp word) word _ e
+
+  pub write-row-refuses : RefusesInOrder (writeAnswer c h gear lamp word) Refused Done
+      (codeRules (eqb (length word) (c .n)) c h ∷ writeParts c h gear lamp)
+  unfolding writeAnswer writeFault codeRules shapeRules signatureRules writeRules
+  write-row-refuses =
+      refuses-in-order Refused Done done-apart same-outcome (codeRules (eqb (length word) (c .n)) c h ∷ writeParts c h gear lamp) refl
+
+module _ (c : Parameters) (h received repaired : List ℕ) where
+  pub read-row-unchanged : {k : ℕ} → readAnswer c h received repaired ≡ NotRead k → readAfter c h received repaired ≡ repaired
+  unfolding readAnswer readAfter rowRead
+  read-row-unchanged e = refused-leaves NotRead _ (read-apart _ _) (readFault c h received repaired) repaired _ e
+
+  pub read-row-refuses : RefusesInOrder (readAnswer c h received repaired) NotRead (rowRead c h (whole (c .n)) received)
+      (codeRules (eqb (length received) (c .n) && eqb (length repaired) (c .n)) c h ∷ readParts c h received)
+  unfolding readAnswer readFault rowRead codeRules shapeRules signatureRules readRules wordRules
+  read-row-refuses =
+      refuses-in-order NotRead _ (read-apart _ _) same-reading
+      (codeRules (eqb (length received) (c .n) && eqb (length repaired) (c .n)) c h ∷ readParts c h received) refl
+
+-- ---- sheets: 13 "comes first of all"
+
+module _ (text out : List ℕ) where
+  pub listing-unchanged : {k : ℕ} → listingAnswer text out ≡ NotCounted k → listingAfter text out ≡ out
+  unfolding listingAnswer listingAfter
+  listing-unchanged e = refused-leaves NotCounted _ (counted-apart _) (listingFault text out) out _ e
+
+  pub listing-refuses : RefusesInOrder (listingAnswer text out) NotCounted (Count (length (sheetListing text)))
+      (((13 unless isSheet text) ∷ []) ∷ codeRules true (sheetParameters text) (sheetH text) ∷ roomRules (sheetListing text) out ∷ [])
+  unfolding listingAnswer listingFault sheetRules codeRules shapeRules signatureRules roomRules
+  listing-refuses =
+      refuses-in-order NotCounted _ (counted-apart _) same-counted
+      (((13 unless isSheet text) ∷ []) ∷ codeRules true (sheetParameters text) (sheetH text) ∷ roomRules (sheetListing text) out ∷ []) refl
+
+  pub printed-unchanged : {k : ℕ} → printedAnswer text out ≡ NotCounted k → printedAfter text out ≡ out
+  unfolding printedAnswer printedAfter storedAnswer storedAfter
+  printed-unchanged e = refused-leaves NotCounted _ (counted-apart _) (fault (roomRules (printedText text) out)) out _ e
+
+  pub printed-refuses : Refuses (printedAnswer text out) NotCounted (Count (length (printedText text))) (roomRules (printedText text) out)
+  unfolding printedAnswer storedAnswer roomRules
+  printed-refuses = refuses NotCounted _ (counted-apart _) same-counted (roomRules (printedText text) out) refl

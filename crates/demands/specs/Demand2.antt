@@ -1,0 +1,238 @@
+-- Demand 2: "Within 01's limits a signature is accepted exactly if two disjoint sequences of distinct field elements exist whose Cauchy matrix is its
+-- dyadic matrix; such a pair then comes back for every offset. Encoding a message gives the one code word that carries it, and reading that word gives
+-- the message. Block products and inverses are those of the full matrices. State this over the field's width".
+--
+-- Every law here is for every width m of the table.
+use mathlib.Core.Path.{_≡_, sym, ap, _∙_, subst}
+use mathlib.Core.Logic.{_≢_, _↔_}
+use mathlib.Core.Bool.{true, false≢true, not}
+use mathlib.Core.List.{List}
+use Prim.Native.Nat.{ℕ, _*_, _^_, _<_, _≤_}
+use native.Mathlib.Decide.{ℕ-discrete}
+use native.Mathlib.Omega.{arith}
+use lib.Dec.{eqb}
+use lib.ListN.{length}
+use borrow.Author.Tests.{eq-eqb, ne-eqb, not-true}
+use Rattle.algebra.specs.All.{both-hold}
+use Rattle.algebra.specs.Lists.{entryOf}
+use Rattle.algebra.specs.Tabulate.{getD-tabulate}
+use Rattle.refusals.specs.declared.Outcome.the-variants.{Done, Refused}
+use Rattle.refusals.specs.Rules.{fault-none, hold, given}
+use Rattle.field.specs.Gf.{Width, gf, gf-laws}
+use Rattle.field.specs.Range.{isWidth, width-is}
+use Rattle.slices.specs.Bits.{Bits, allBits, bits-are}
+use Rattle.slices.specs.Elements.{Elements, allElements, elements-are}
+use Rattle.slices.specs.Lengths.{isPower, power-is}
+use Rattle.signature.specs.Signature.{Cauchy, HasCauchy}
+use Rattle.dyadic.specs.Block.{matrix, blockSum, blockProduct, total, blockInverse}
+use Rattle.dyadic.specs.Laws.{matrix-sum, matrix-product, left-inverse, right-inverse, no-left-inverse, no-right-inverse}
+use Rattle.dyadic.specs.Matrix.{Matrix, Same, matrixSum, matrixProduct, identity}
+use Rattle.blocks.specs.Answers.{sizeRules, blockRules, pairRules, inverseRules, pairFault, inverseFault}
+use Rattle.blocks.specs.Answers.{sumAnswer, sumAfter, productAnswer, productAfter, inverseAnswer, inverseAfter}
+use Rattle.params.specs.declared.Parameters.{Parameters}
+use Rattle.params.specs.Accepted.{withOffset, offset-accepted}
+use Rattle.params.specs.Calls.{code-leaves}
+use Rattle.params.specs.Code.{Limits, Accepted}
+use Rattle.codes.specs.Answers.{checkAnswer, rootsAfter, supportAfter}
+use Rattle.codes.specs.Acceptance.{accepted-done, done-exactly, done-pair, done-short}
+use Rattle.parity.specs.Columns.{messageOf, encodingOf, messageLength}
+use Rattle.parity.specs.Encoding.{encoding-carries, encoding-only}
+use Rattle.parity.specs.Word.{whole, syndromeAt, syndromeOf}
+use Rattle.messages.specs.MessageRules.{messageRules}
+use Rattle.words.specs.Answers.{bitRules, syndromeFault, syndromeAnswer, syndromeAfter}
+use Rattle.words.specs.Answers.{encodeFault, encodeAnswer, encodeAfter, messageFault, messageAnswer, messageAfter}
+use Rattle.demands.specs.CodeWords.{CodeWord, code-word-on, code-word}
+use Rattle.demands.specs.Demand1.{block-inverse-refuses}
+use Rattle.demands.specs.Outcomes.{done-apart, done-none}
+
+-- ---- codes
+
+-- "Within 01's limits a signature is accepted exactly if two disjoint sequences of distinct field elements exist whose Cauchy matrix is its dyadic
+-- matrix"
+pub accepted-exactly : (c : Parameters) (h roots support : List ℕ) → Limits c h → c .omega < 2 ^ c .m → length roots ≡ c .n → length support ≡ c .n
+    → (checkAnswer c h roots support ≡ Done) ↔ HasCauchy (gf (c .m)) (c .n) (entryOf h)
+accepted-exactly = done-exactly
+
+-- "such a pair then comes back for every offset"
+pub pair-for-every-offset : {c : Parameters} {h : List ℕ} → Accepted c h → (ω : ℕ) → ω < 2 ^ c .m
+    → (roots support : List ℕ) → length roots ≡ c .n → length support ≡ c .n
+    → (checkAnswer (withOffset c ω) h roots support ≡ Done)
+    × Cauchy (gf (c .m)) (c .n) (entryOf h)
+    (entryOf (rootsAfter (withOffset c ω) h roots support)) (entryOf (supportAfter (withOffset c ω) h roots support))
+pair-for-every-offset {c} {h} A ω l roots support r s =
+    let done = accepted-done (withOffset c ω) h roots support r s (offset-accepted ω l A) in
+    (done, done-pair (withOffset c ω) h roots support done)
+
+-- 01: "n above q/2 is therefore never accepted"
+pub never-above-half : (c : Parameters) (h roots support : List ℕ) → checkAnswer c h roots support ≡ Done → 2 * c .n ≤ 2 ^ c .m
+never-above-half = done-short
+
+-- ---- words
+
+-- what encoding leaves
+pub record Encoded (c : Parameters) (h message word : List ℕ) : Type 0 where
+  pub is-code-word : CodeWord c h word
+  -- "reading that word gives the message"
+  pub reads : (buffer : List ℕ) → length buffer ≡ messageLength c h
+      → (messageAnswer c h word buffer ≡ Done) × (messageAfter c h word buffer ≡ message)
+  -- "the one code word that carries it"
+  pub only : (w buffer : List ℕ) → CodeWord c h w → length buffer ≡ messageLength c h → messageAfter c h w buffer ≡ message → w ≡ word
+
+module _ {c : Parameters} {h : List ℕ} (A : Accepted c h) where
+  -- taking the message out of a word of n bits is not refused
+  message-taken : (w buffer : List ℕ) → length w ≡ c .n → Bits w → length buffer ≡ messageLength c h
+      → (messageAnswer c h w buffer ≡ Done) × (messageAfter c h w buffer ≡ messageOf c h (whole (c .n)) w)
+  unfolding messageAnswer messageAfter messageFault messageRules
+  message-taken w buffer long bits fits =
+      let none =
+      code-leaves A (eq-eqb (length w) (c .n) long) (messageRules (messageLength c h) (length buffer) (allBits w))
+      ∙ fault-none (messageRules (messageLength c h) (length buffer) (allBits w))
+      (eq-eqb (length buffer) (messageLength c h) fits, (bits-are w .1 bits, tt)) in
+      (given Refused Done none, given (λ k. buffer) (messageOf c h (whole (c .n)) w) none)
+
+  -- "Encoding a message gives the one code word that carries it, and reading that word gives the message."
+  pub encoded : (message word : List ℕ) → length message ≡ messageLength c h → Bits message → length word ≡ c .n
+      → (encodeAnswer c h message word ≡ Done) × Encoded c h message (encodeAfter c h message word)
+  unfolding encodeAnswer encodeAfter encodeFault messageRules
+  encoded message word fits bits long =
+      let none =
+      code-leaves A (eq-eqb (length word) (c .n) long) (messageRules (messageLength c h) (length message) (allBits message))
+      ∙ fault-none (messageRules (messageLength c h) (length message) (allBits message))
+      (eq-eqb (length message) (messageLength c h) fits, (bits-are message .1 bits, tt)) in
+      (given Refused Done none, subst (Encoded c h message) (sym (given (λ k. word) (encodingOf c h (whole (c .n)) message) none)) carried)
+    where
+      carried : Encoded c h message (encodingOf c h (whole (c .n)) message)
+      carried =
+          let cols = whole (c .n) in
+          let coded = encodingOf c h cols message in
+          let W = A .limits .width in
+          let (b, k, q) = encoding-carries c h cols W message fits bits in
+          let C = code-word c h coded (record { bits = b; code = k }) in
+          record {
+            is-code-word = C;
+            reads = λ buffer room. let (done, after) = message-taken coded buffer (C .long) (C .bits) room in (done, after ∙ q);
+            only = λ w buffer D room e.
+                let on = code-word-on c h w D in
+                encoding-only c h cols W message w fits bits (on .bits) (on .code)
+                (sym (message-taken w buffer (D .long) (D .bits) room .1) ∙ e);
+          }
+
+  -- 01: "Its syndrome is those t sums"; they are all zero exactly if the word is a code word
+  pub zero-syndrome : (word out : List ℕ) → length word ≡ c .n → Bits word → length out ≡ c .t
+      → (syndromeAnswer c h word out ≡ Done)
+      × (((i : ℕ) → i < c .t → entryOf (syndromeAfter c h word out) i ≡ 0) ↔ CodeWord c h word)
+  unfolding syndromeAnswer syndromeAfter syndromeFault bitRules syndromeOf
+  zero-syndrome word out long bits fits =
+      let none =
+      code-leaves A (both-hold (eq-eqb (length word) (c .n) long) (eq-eqb (length out) (c .t) fits)) (bitRules word)
+      ∙ fault-none (bitRules word) (bits-are word .1 bits, tt) in
+      let after = given (λ k. out) (syndromeOf c h (whole (c .n)) word) none in (
+        given Refused Done none,
+        (
+          λ z. record { long = long; bits = bits; zero = λ i l. sym (at i l) ∙ ap (λ (x : List ℕ). entryOf x i) (sym after) ∙ z i l },
+          λ C i l. ap (λ (x : List ℕ). entryOf x i) after ∙ at i l ∙ C .zero i l,
+        ),
+      )
+    where
+      at : (i : ℕ) → i < c .t → entryOf (syndromeOf c h (whole (c .n)) word) i ≡ syndromeAt c h (whole (c .n)) word i
+      at i l = getD-tabulate (c .t) (syndromeAt c h (whole (c .n)) word) i 0 l
+
+-- ---- blocks: "Block products and inverses are those of the full matrices."
+
+module _ (m : ℕ) (a out : List ℕ) where
+  -- a block that is not refused: its width is one of the table, its length is a power of two, and it holds elements
+  module _ (b : List ℕ) (none : pairFault m a b (length out) ≡ 0) where
+    pair-sized : (e : ℕ) × (length a ≡ 2 ^ e) × (isWidth m ≡ true)
+    unfolding pairFault pairRules sizeRules
+    pair-sized =
+        let (width, more) = hold (pairRules m a b (length out)) tt none in
+        let (e, low, is) = power-is (length a) (more .0) in (e, is, width)
+
+  pub sum-of-matrices : (b : List ℕ) → sumAnswer m a b out ≡ Done
+      → Same (length a) (matrix (gf m) (sumAfter m a b out)) (matrixSum (gf m) (matrix (gf m) a) (matrix (gf m) b))
+  unfolding sumAnswer sumAfter
+  sum-of-matrices b e =
+      let none = done-none (pairFault m a b (length out)) e in
+      let (log, long, width) = pair-sized b none in
+      subst (λ (x : List ℕ). Same (length a) (matrix (gf m) x) (matrixSum (gf m) (matrix (gf m) a) (matrix (gf m) b)))
+      (sym (given (λ k. out) (blockSum (gf m) a b) none))
+      (subst (λ (s : ℕ). Same s (matrix (gf m) (blockSum (gf m) a b)) (matrixSum (gf m) (matrix (gf m) a) (matrix (gf m) b))) (sym long)
+      (matrix-sum (gf m) (gf-laws m (width-is m width)) log a b long))
+
+  pub product-of-matrices : (b : List ℕ) → productAnswer m a b out ≡ Done
+      → Same (length a) (matrix (gf m) (productAfter m a b out)) (matrixProduct (gf m) (length a) (matrix (gf m) a) (matrix (gf m) b))
+  unfolding productAnswer productAfter
+  product-of-matrices b e =
+      let none = done-none (pairFault m a b (length out)) e in
+      let (log, long, width) = pair-sized b none in
+      subst (λ (x : List ℕ). Same (length a) (matrix (gf m) x) (matrixProduct (gf m) (length a) (matrix (gf m) a) (matrix (gf m) b)))
+      (sym (given (λ k. out) (blockProduct (gf m) a b) none))
+      (subst (λ (s : ℕ). Same s (matrix (gf m) (blockProduct (gf m) a b)) (matrixProduct (gf m) s (matrix (gf m) a) (matrix (gf m) b))) (sym long)
+      (matrix-product (gf m) (gf-laws m (width-is m width)) log a b long))
+
+  -- a block whose inverse is asked for, past 1 to 3
+  record Shaped : Type 0 where
+    pub log : ℕ
+    pub long : length a ≡ 2 ^ log
+    pub width : Width m
+    pub elements : Elements m a
+
+  shaped : isWidth m ≡ true → isPower (length a) ≡ true → allElements m a ≡ true → Shaped
+  shaped w p e =
+      let (log, low, is) = power-is (length a) p in
+      record { log = log; long = is; width = width-is m w; elements = elements-are m a .0 e }
+
+  alive : not (eqb (total (gf m) a) 0) ≡ true → total (gf m) a ≢ 0
+  alive t z = false≢true (sym (not-true (eqb (total (gf m) a) 0) t) ∙ eq-eqb (total (gf m) a) 0 z)
+
+  abbrev Inverses : List ℕ → ℕ → Type 0
+  Inverses x s =
+      Same s (matrixProduct (gf m) s (matrix (gf m) x) (matrix (gf m) a)) (identity (gf m))
+      × Same s (matrixProduct (gf m) s (matrix (gf m) a) (matrix (gf m) x)) (identity (gf m))
+
+  -- the matrix of what comes back is the inverse, on both sides
+  pub inverse-of-matrix : inverseAnswer m a out ≡ Done
+      → Same (length a) (matrixProduct (gf m) (length a) (matrix (gf m) (inverseAfter m a out)) (matrix (gf m) a)) (identity (gf m))
+      × Same (length a) (matrixProduct (gf m) (length a) (matrix (gf m) a) (matrix (gf m) (inverseAfter m a out))) (identity (gf m))
+  unfolding inverseAnswer inverseAfter inverseFault inverseRules blockRules sizeRules
+  inverse-of-matrix e =
+      let none : inverseFault m a (length out) ≡ 0 = done-none (inverseFault m a (length out)) e in
+      let held = hold (inverseRules m a (length out)) tt none in
+      let H = shaped (held .0) (held .1 .0) (held .1 .1 .1 .0) in
+      let nonzero = alive (held .1 .1 .1 .1 .0) in
+      let F = gf-laws m (H .width) in
+      let ins : (i : ℕ) → i < 2 ^ H .log → entryOf a i < 2 ^ m = λ i l. H .elements i (subst (λ (k : ℕ). i < k) (sym (H .long)) l) in
+      subst (λ (x : List ℕ). Inverses x (length a)) (sym (given (λ k. out) (blockInverse (gf m) a) none))
+      (subst (Inverses (blockInverse (gf m) a)) (sym (H .long))
+      (left-inverse (gf m) F (H .log) a (H .long) ins nonzero, right-inverse (gf m) F (H .log) a (H .long) ins nonzero))
+
+  dead : inverseAnswer m a out ≡ Refused 9 → Shaped × (total (gf m) a ≡ 0)
+  unfolding inverseRules blockRules sizeRules
+  dead e =
+      let below = block-inverse-refuses m a out .1 9 e .below in
+      let w = below .0 (omega arith) in
+      let p = below .1 .0 (omega arith) in
+      let fits = below .1 .1 .0 (omega arith) in
+      let elements = below .1 .1 .1 .0 (omega arith) in
+      (shaped w p elements, decided w p fits elements (ℕ-discrete (total (gf m) a) 0))
+    where
+      decided : isWidth m ≡ true → isPower (length a) ≡ true → eqb (length out) (length a) ≡ true → allElements m a ≡ true
+          → Dec (total (gf m) a ≡ 0) → total (gf m) a ≡ 0
+      decided w p fits elements (yes z) = z
+      decided w p fits elements (no ne) =
+          absurd
+          (done-apart 9
+          (sym e ∙ block-inverse-refuses m a out .0 .0 (w, (p, (fits, (elements, (ap not (ne-eqb (total (gf m) a) 0 ne), tt)))))))
+
+  -- where the block is refused by 9 no matrix is its inverse, on either side
+  pub no-inverse : inverseAnswer m a out ≡ Refused 9 → (X : Matrix ℕ)
+      → (¬ Same (length a) (matrixProduct (gf m) (length a) X (matrix (gf m) a)) (identity (gf m)))
+      × (¬ Same (length a) (matrixProduct (gf m) (length a) (matrix (gf m) a) X) (identity (gf m)))
+  no-inverse e X =
+      let (H, zero) = dead e in
+      let F = gf-laws m (H .width) in (
+        λ same. no-left-inverse (gf m) F (H .log) a (H .long) zero X
+            (subst (λ (s : ℕ). Same s (matrixProduct (gf m) s X (matrix (gf m) a)) (identity (gf m))) (H .long) same),
+        λ same. no-right-inverse (gf m) F (H .log) a (H .long) zero X
+            (subst (λ (s : ℕ). Same s (matrixProduct (gf m) s (matrix (gf m) a) X) (identity (gf m))) (H .long) same),
+      )

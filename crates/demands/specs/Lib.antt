@@ -1,0 +1,11 @@
+pub mod Outcomes
+pub mod Lowest
+pub mod CodeWords
+pub mod Demand1
+pub mod Demand2
+pub mod Demand3
+pub mod Rows
+pub mod Field
+pub mod Columns
+pub mod Interface
+pub mod Sheet
