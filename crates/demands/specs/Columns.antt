@@ -1,5 +1,5 @@
--- A message column by 01's words: "Write each column j of the t × n parity matrix as m × t bits … Column j is a message column if it is a sum of columns
--- before it". The definition adds the entries of columns as elements; bit by bit it says the same.
+-- A message column by 01's words: "Write each column j of the t × n parity matrix as m × t bits … Column j is a message column if it is a sum of
+-- columns before it". The definition adds the entries of columns as elements; bit by bit, in whatever order, it says the same.
 use mathlib.Core.Path.{_≡_, refl, sym, ap, _∙_}
 use mathlib.Core.Logic.{_↔_}
 use mathlib.Core.Bool.{true}

@@ -1,10 +1,10 @@
--- Demand 1: "The buffers that a caller lends are written only by a call that succeeds. Every call ends, for all inputs, and a fault in the input brings
--- back its number from the table in 01 with each buffer unchanged."
+-- Demand 1: "The buffers that a caller lends are written only by a call that succeeds. Every call ends, for all inputs, and a fault in the input
+-- brings back its number from the table in 01 with each buffer unchanged."
 --
--- That every call ends is part of its proof. Of each call there is said here that a refusal leaves each buffer as it was (`..-unchanged`); and that it
--- gives its value exactly if all its rules hold, and is refused otherwise by the lowest number that applies (`..-refuses`). The rules of five calls come in
--- parts, since 01 has exceptions from the lowest number: 12 comes after 7 and before all others (`write-row`, `read-row`), the 2 of a message's length
--- comes after 7 and before 8 (`encode`, `message`), and 13 comes first, and the 2 of a short buffer last, for a sheet (`listing`).
+-- That every call ends is part of its proof. Of each call there is said here that a refusal leaves each buffer as it was (`..-unchanged`); and that
+-- it gives its value exactly if all its rules hold, and is refused otherwise by the lowest number that applies (`..-refuses`). The rules of five
+-- calls come in parts, since 01 has exceptions from the lowest number: 12 comes after 7 and before all others (`write-row`, `read-row`), the 2 of a
+-- message's length comes after 7 and before 8 (`encode`, `message`), and 13 comes first, and the 2 of a short buffer last, for a sheet (`listing`).
 use mathlib.Core.Path.{_≡_, refl, sym, ap₂, subst}
 use mathlib.Core.Logic.{_≢_, _↔_, _⊎_, inl, inr}
 use mathlib.Core.Bool.{true, not, _&&_}
@@ -50,7 +50,8 @@ use Rattle.sheets.specs.Sheet.{sheetParameters, sheetH, isSheet}
 use Rattle.demands.specs.Lowest.{rising, Fails, HoldBelow, Lowest, lowest, rising-numbered, below-fault}
 use Rattle.demands.specs.Lowest.{allRules, risingParts, InOrder, parts-numbered, in-order}
 use Rattle.demands.specs.Outcomes.{value-none, refused-leaves, refused-due, holds-given, done-apart, same-outcome, element-apart, same-element}
-use Rattle.demands.specs.Outcomes.{counted-apart, same-counted, repaired-apart, same-recovery, read-apart, same-reading, compared-apart, same-sameness}
+use Rattle.demands.specs.Outcomes.{counted-apart, same-counted, repaired-apart, same-recovery, read-apart, same-reading}
+use Rattle.demands.specs.Outcomes.{compared-apart, same-sameness}
 
 -- a call with these rules has its value exactly if they all hold, and a refusal gives the lowest number that applies
 abbrev pub Refuses : {A : Type 0} → A → (ℕ → A) → A → List Rule → Type 0
@@ -93,7 +94,8 @@ module _ (m a b : ℕ) where
   field-product-refuses = refuses NoElement _ (element-apart _) same-element (elementRules m a ++ (3 unless isElement m b) ∷ []) refl
 
 module _ (m a : ℕ) where
-  pub field-inverse-refuses : Refuses (inverseAnswer m a) NoElement (Element (inverse m (word m) a)) (elementRules m a ++ (4 unless not (eqb a 0)) ∷ [])
+  pub field-inverse-refuses : Refuses (inverseAnswer m a) NoElement (Element (inverse m (word m) a))
+      (elementRules m a ++ (4 unless not (eqb a 0)) ∷ [])
   unfolding inverseAnswer inverseFault elementRules
   field-inverse-refuses = refuses NoElement _ (element-apart _) same-element (elementRules m a ++ (4 unless not (eqb a 0)) ∷ []) refl
 
@@ -162,14 +164,20 @@ lower-none (suc a) (suc b) e = absurd (omega arith)
 
 -- `same` has two codes: its number is the lowest that applies to either, "the lowest of both cards"
 module _ (c₁ : Parameters) (h₁ : List ℕ) (c₂ : Parameters) (h₂ : List ℕ) where
+  abbrev rules₁ : List Rule
+  rules₁ = codeRules true c₁ h₁
+
+  abbrev rules₂ : List Rule
+  rules₂ = codeRules true c₂ h₂
+
   pub same-accepts : (Hold (codeRules true c₁ h₁) × Hold (codeRules true c₂ h₂)) ↔ (sameAnswer c₁ h₁ c₂ h₂ ≡ compared (sameCode c₁ h₁ c₂ h₂))
   unfolding sameAnswer sameFault codeFault lower codeRules shapeRules signatureRules
   same-accepts = (
-    λ holds. given NotCompared _ (ap₂ lower (fault-none (codeRules true c₁ h₁) (holds .0)) (fault-none (codeRules true c₂ h₂) (holds .1))),
+    λ holds. given NotCompared _ (ap₂ lower (fault-none rules₁ (holds .0)) (fault-none rules₂ (holds .1))),
     λ e.
-        let none = value-none NotCompared _ (compared-apart (sameCode c₁ h₁ c₂ h₂)) (lower (fault (codeRules true c₁ h₁)) (fault (codeRules true c₂ h₂))) e in
-        let (p, q) = lower-none (fault (codeRules true c₁ h₁)) (fault (codeRules true c₂ h₂)) none in
-        (hold (codeRules true c₁ h₁) tt p, hold (codeRules true c₂ h₂) tt q),
+        let none = value-none NotCompared _ (compared-apart (sameCode c₁ h₁ c₂ h₂)) (lower (fault rules₁) (fault rules₂)) e in
+        let (p, q) = lower-none (fault rules₁) (fault rules₂) none in
+        (hold rules₁ tt p, hold rules₂ tt q),
   )
 
   pub same-refuses : (k : ℕ) → sameAnswer c₁ h₁ c₂ h₂ ≡ NotCompared k
@@ -178,20 +186,15 @@ module _ (c₁ : Parameters) (h₁ : List ℕ) (c₂ : Parameters) (h₂ : List 
   unfolding sameAnswer sameFault codeFault codeRules shapeRules signatureRules
   same-refuses k e =
       let (ne, is) = refused-due NotCompared _ (compared-apart (sameCode c₁ h₁ c₂ h₂)) same-sameness _ e in
-      let (one, p, q) = lower-is (fault (codeRules true c₁ h₁)) (fault (codeRules true c₂ h₂)) ne in
-      subst (λ (i : ℕ). (Fails i (codeRules true c₁ h₁) ⊎ Fails i (codeRules true c₂ h₂))
-      × HoldBelow i (codeRules true c₁ h₁) × HoldBelow i (codeRules true c₂ h₂)) is (
-        either one,
-        below-fault (codeRules true c₁ h₁) refl _ p,
-        below-fault (codeRules true c₂ h₂) refl _ q,
-      )
+      let (one, p, q) = lower-is (fault rules₁) (fault rules₂) ne in
+      subst (λ (i : ℕ). (Fails i rules₁ ⊎ Fails i rules₂) × HoldBelow i rules₁ × HoldBelow i rules₂) is
+      (either one, below-fault rules₁ refl _ p, below-fault rules₂ refl _ q)
     where
-      either : ((lower (fault (codeRules true c₁ h₁)) (fault (codeRules true c₂ h₂)) ≡ fault (codeRules true c₁ h₁)) × (fault (codeRules true c₁ h₁) ≢ 0))
-          ⊎ ((lower (fault (codeRules true c₁ h₁)) (fault (codeRules true c₂ h₂)) ≡ fault (codeRules true c₂ h₂)) × (fault (codeRules true c₂ h₂) ≢ 0))
-          → Fails (lower (fault (codeRules true c₁ h₁)) (fault (codeRules true c₂ h₂))) (codeRules true c₁ h₁)
-          ⊎ Fails (lower (fault (codeRules true c₁ h₁)) (fault (codeRules true c₂ h₂))) (codeRules true c₂ h₂)
-      either (inl (is, ne)) = inl (subst (λ (i : ℕ). Fails i (codeRules true c₁ h₁)) (sym is) (lowest (codeRules true c₁ h₁) refl ne .fails))
-      either (inr (is, ne)) = inr (subst (λ (i : ℕ). Fails i (codeRules true c₂ h₂)) (sym is) (lowest (codeRules true c₂ h₂) refl ne .fails))
+      either : ((lower (fault rules₁) (fault rules₂) ≡ fault rules₁) × (fault rules₁ ≢ 0))
+          ⊎ ((lower (fault rules₁) (fault rules₂) ≡ fault rules₂) × (fault rules₂ ≢ 0))
+          → Fails (lower (fault rules₁) (fault rules₂)) rules₁ ⊎ Fails (lower (fault rules₁) (fault rules₂)) rules₂
+      either (inl (is, ne)) = inl (subst (λ (i : ℕ). Fails i rules₁) (sym is) (lowest rules₁ refl ne .fails))
+      either (inr (is, ne)) = inr (subst (λ (i : ℕ). Fails i rules₂) (sym is) (lowest rules₂ refl ne .fails))
 
 -- ---- words
 

@@ -1,6 +1,6 @@
--- Demand 2: "Within 01's limits a signature is accepted exactly if two disjoint sequences of distinct field elements exist whose Cauchy matrix is its
--- dyadic matrix; such a pair then comes back for every offset. Encoding a message gives the one code word that carries it, and reading that word gives
--- the message. Block products and inverses are those of the full matrices. State this over the field's width".
+-- Demand 2: "Within 01's limits a signature is accepted exactly if two disjoint sequences of distinct field elements exist whose Cauchy matrix is
+-- its dyadic matrix; such a pair then comes back for every offset. Encoding a message gives the one code word that carries it, and reading that word
+-- gives the message. Block products and inverses are those of the full matrices. State this over the field's width".
 --
 -- Every law here is for every width m of the table.
 use mathlib.Core.Path.{_≡_, sym, ap, _∙_, subst}

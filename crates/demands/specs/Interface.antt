@@ -36,7 +36,8 @@ use Rattle.parity.specs.Columns.{isMessageColumn, dimension, messageLength}
 use Rattle.parity.specs.Selected.{length-whole}
 use Rattle.parity.specs.Word.{whole}
 use Rattle.messages.specs.MessageRules.{messageRules}
-use Rattle.words.specs.Answers.{bitRules, rolesFault, rolesAnswer, syndromeFault, syndromeAnswer, encodeFault, encodeAnswer, messageFault, messageAnswer}
+use Rattle.words.specs.Answers.{bitRules, rolesFault, rolesAnswer, syndromeFault, syndromeAnswer}
+use Rattle.words.specs.Answers.{encodeFault, encodeAnswer, messageFault, messageAnswer}
 use Rattle.nearest.specs.Repair.{differs, distance, repairedOf}
 use Rattle.repair.specs.declared.Recovery.the-variants.{Repaired, Refused as NotRepaired}
 use Rattle.repair.specs.Answers.{wordRules, turnedCount, repairFault, repairAnswer}
@@ -52,7 +53,8 @@ use Rattle.wire.specs.Wire.{minus, elementCode, outcomeCode, samenessCode, coun
 use Rattle.wire.specs.Readings.{reading-whole}
 use Rattle.demands.specs.Lowest.{upTo, fault-up-to}
 use Rattle.demands.specs.Outcomes.{value-none, refused-due, done-apart, same-outcome, element-apart, same-element}
-use Rattle.demands.specs.Outcomes.{counted-apart, same-counted, repaired-apart, same-recovery, read-apart, same-reading, compared-apart, same-sameness}
+use Rattle.demands.specs.Outcomes.{counted-apart, same-counted, repaired-apart, same-recovery, read-apart, same-reading}
+use Rattle.demands.specs.Outcomes.{compared-apart, same-sameness}
 
 -- the greatest number of 01's table
 abbrev pub greatestNumber : ℕ
@@ -147,7 +149,8 @@ module _ (m : ℕ) where
   unfolding sumAnswer pairFault elementRules
   zov-field-sum a b =
       let rules = elementRules m a ++ (3 unless isElement m b) ∷ [] in
-      told-apart elementCode NoElement (Element (a ⊕ b)) (element-apart _) same-element (λ k. refl) (fault rules) (fault-up-to greatestNumber rules refl)
+      told-apart elementCode NoElement (Element (a ⊕ b)) (element-apart _) same-element (λ k. refl) (fault rules)
+      (fault-up-to greatestNumber rules refl)
       (λ none.
       let held = hold rules tt none in
       element-value (held .0) (a ⊕ b) (⊕-lt m a b (element-is m a (held .1 .0)) (element-is m b (held .1 .1 .0))))
@@ -187,7 +190,8 @@ module _ (c : Parameters) (h : List ℕ) where
   zov-repair received repaired =
       let lent = (eqb (length received) (c .n) && eqb (length repaired) (c .n)) in
       let rules = codeRules lent c h ++ wordRules c h (whole (c .n)) received in
-      told-apart recoveryCode NotRepaired (Repaired (turnedCount c h (whole (c .n)) received)) (repaired-apart _) same-recovery (λ k. refl) (fault rules)
+      told-apart recoveryCode NotRepaired (Repaired (turnedCount c h (whole (c .n)) received)) (repaired-apart _) same-recovery (λ k. refl)
+      (fault rules)
       (fault-up-to greatestNumber rules refl)
       (λ none.
       count-value lent (wordRules c h (whole (c .n)) received) none

@@ -1,5 +1,5 @@
--- The bench sheet: 13 is for a text that is no printed sheet, a sheet's code is listed where there is room, whatever is printed has room in the stated
--- length, and every number of a listing fits its columns.
+-- The bench sheet: 13 is for a text that is no printed sheet, a sheet's code is listed where there is room, whatever is printed has room in the
+-- stated length, and every number of a listing fits its columns.
 use mathlib.Core.Path.{_≡_, refl, sym, ap, ap₂, _∙_, subst}
 use mathlib.Core.Logic.{_↔_}
 use mathlib.Core.Bool.{Bool, true, false, cond}
@@ -165,16 +165,17 @@ module _ {c : Parameters} {h : List ℕ} (A : Accepted c h) where
   unfolding listingAnswer listingAfter listingFault sheetListing sheetRules roomRules over
   listed out room =
       let R = sheet-read c h (small (numbersOf c) code-numbers) signature-small (A .limits .h-length) in
-      let text-is : listingText (sheetParameters (sheetText c h)) (sheetH (sheetText c h)) ≡ listingText c h = ap₂ listingText (R .numbers) (R .signature) in
-      let long : length (sheetListing (sheetText c h)) ≡ listingLength (c .n) = ap length text-is ∙ length-listing c h in
-      let accepts-it = subst (λ (x : List ℕ). Accepted (sheetParameters (sheetText c h)) x) (sym (R .signature))
+      let text = sheetText c h in
+      let rules = roomRules (sheetListing text) out in
+      let text-is : listingText (sheetParameters text) (sheetH text) ≡ listingText c h = ap₂ listingText (R .numbers) (R .signature) in
+      let long : length (sheetListing text) ≡ listingLength (c .n) = ap length text-is ∙ length-listing c h in
+      let accepts-it = subst (λ (x : List ℕ). Accepted (sheetParameters text) x) (sym (R .signature))
       (subst (λ (d : Parameters). Accepted d h) (sym (R .numbers)) A) in
-      let none = fault-past 13 _ (R .sheet) (code-leaves accepts-it refl (roomRules (sheetListing (sheetText c h)) out))
-      ∙ fault-past 2 [] (le-leb (length (sheetListing (sheetText c h))) (length out) (subst (λ (k : ℕ). k ≤ length out) (sym long) room)) fault-empty in (
+      let fits = le-leb (length (sheetListing text)) (length out) (subst (λ (k : ℕ). k ≤ length out) (sym long) room) in
+      let none = fault-past 13 _ (R .sheet) (code-leaves accepts-it refl rules) ∙ fault-past 2 [] fits fault-empty in (
         given Refused _ none ∙ ap Count long,
         ap (take (listingLength (c .n))) (given (λ k. out) _ none)
-            ∙ take-at (sheetListing (sheetText c h)) (drop (length (sheetListing (sheetText c h))) out) (listingLength (c .n)) long
-            ∙ text-is,
+            ∙ take-at (sheetListing text) (drop (length (sheetListing text)) out) (listingLength (c .n)) long ∙ text-is,
       )
     where
       code-numbers : Each (numbersOf c)
