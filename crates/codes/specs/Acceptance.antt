@@ -1,10 +1,10 @@
 -- Demand 2 of what `check` answers: within 01's limits it accepts a signature exactly if a Cauchy pair exists, and what then stands in the buffers is such
 -- a pair.
-use mathlib.Core.Path.{_≡_, refl, sym, ap, ap₂, _∙_, subst}
+use mathlib.Core.Path.{_≡_, sym, ap, ap₂, _∙_, subst}
 use mathlib.Core.Logic.{_↔_}
 use mathlib.Core.Bool.{Bool, _&&_}
 use mathlib.Core.List.{List}
-use Prim.Native.Nat.{ℕ, zero, suc, _*_, _^_, _≤_, _<_}
+use Prim.Native.Nat.{ℕ, _*_, _^_, _≤_, _<_}
 use native.Mathlib.Omega.{arith}
 use lib.Dec.{eqb}
 use lib.ListN.{length, getD}
@@ -13,6 +13,7 @@ use Rattle.algebra.specs.All.{both-hold}
 use Rattle.algebra.specs.Field.{Ops}
 use Rattle.algebra.specs.Tabulate.{tabulate, getD-tabulate}
 use Rattle.field.specs.Gf.{gf, gf-laws}
+use Rattle.refusals.specs.Answered.{done-none}
 use Rattle.refusals.specs.Rules.{unless-refused}
 use Rattle.refusals.specs.declared.Outcome.the-variants.{Done, Refused}
 use Rattle.params.specs.declared.Parameters.{Parameters}
@@ -37,12 +38,6 @@ cauchy-cong {K = K} p q P =
       entry = λ i j li lj. ap (K .inv) (ap₂ (K .add) (p i li) (q j lj)) ∙ P .entry i j li lj;
     }
 
-done-zero : (k : ℕ) → unless-refused k Refused Done ≡ Done → k ≡ 0
-unfolding unless-refused
-done-zero zero e = refl
-done-zero (suc k) e =
-    let z : _≡_ {A = ℕ} 0 1 = cc in absurd (omega arith)
-
 module _ (c : Parameters) (h roots support : List ℕ) where
   -- both buffers have n entries
   abbrev lent : Bool
@@ -50,7 +45,7 @@ module _ (c : Parameters) (h roots support : List ℕ) where
 
   pub done-accepted : checkAnswer c h roots support ≡ Done → Accepted c h
   unfolding checkAnswer checkFault codeFault
-  done-accepted e = accepted lent c h (done-zero (checkFault c h roots support) e) .1
+  done-accepted e = accepted lent c h (done-none (checkFault c h roots support) e) .1
 
   pub accepted-done : length roots ≡ c .n → length support ≡ c .n → Accepted c h → checkAnswer c h roots support ≡ Done
   unfolding checkAnswer checkFault codeFault unless-refused
@@ -78,7 +73,7 @@ module _ (c : Parameters) (h roots support : List ℕ) where
       → Cauchy (gf (c .m)) (c .n) (entryOf h) (entryOf (rootsAfter c h roots support)) (entryOf (supportAfter c h roots support))
   unfolding checkAnswer rootsAfter supportAfter unless-refused
   done-pair e =
-      let z : checkFault c h roots support ≡ 0 = done-zero (checkFault c h roots support) e in
+      let z : checkFault c h roots support ≡ 0 = done-none (checkFault c h roots support) e in
       cauchy-cong
       (λ i l. ap (λ (k : ℕ). getD (unless-refused k (λ j. roots) (tabulate (c .n) (rootAt (gf (c .m)) (c .omega) (entryOf h)))) i 0) z
       ∙ getD-tabulate (c .n) (rootAt (gf (c .m)) (c .omega) (entryOf h)) i 0 l)

@@ -15,6 +15,7 @@ use native.Mathlib.Omega.{arith}
 use lib.Dec.{eqb, leb}
 use lib.ListN.{length}
 use Rattle.algebra.specs.Xor.{_⊕_}
+use Rattle.refusals.specs.Answered.{value-none, refused-leaves, refused-due, holds-given, done-apart, same-outcome, counted-apart, same-counted}
 use Rattle.refusals.specs.declared.Counted.the-variants.{Count, Refused as NotCounted}
 use Rattle.refusals.specs.declared.Outcome.the-variants.{Done, Refused}
 use Rattle.refusals.specs.Rules.{Rule, _unless_, Hold, fault, fault-none, hold, unless-refused, given}
@@ -32,6 +33,7 @@ use Rattle.params.specs.Code.{shapeRules, codeRules, codeFault}
 use Rattle.signature.specs.Tests.{signatureRules}
 use Rattle.codes.specs.declared.Sameness.the-variants.{Refused as NotCompared}
 use Rattle.codes.specs.Answers.{checkFault, checkAnswer, rootsAfter, supportAfter, lowest as lower, compared, sameFault, sameAnswer}
+use Rattle.codes.specs.Lowest.{lowest-none}
 use Rattle.codes.specs.Same.{sameCode}
 use Rattle.parity.specs.Columns.{messageLength}
 use Rattle.parity.specs.Word.{whole}
@@ -49,8 +51,8 @@ use Rattle.sheets.specs.Fault.{sheetRules}
 use Rattle.sheets.specs.Sheet.{sheetParameters, sheetH, isSheet}
 use Rattle.demands.specs.Lowest.{rising, Fails, HoldBelow, Lowest, lowest, rising-numbered, below-fault}
 use Rattle.demands.specs.Lowest.{allRules, risingParts, InOrder, parts-numbered, in-order}
-use Rattle.demands.specs.Outcomes.{value-none, refused-leaves, refused-due, holds-given, done-apart, same-outcome, element-apart, same-element}
-use Rattle.demands.specs.Outcomes.{counted-apart, same-counted, repaired-apart, same-recovery, read-apart, same-reading}
+use Rattle.demands.specs.Outcomes.{element-apart, same-element}
+use Rattle.demands.specs.Outcomes.{repaired-apart, same-recovery, read-apart, same-reading}
 use Rattle.demands.specs.Outcomes.{compared-apart, same-sameness}
 
 -- a call with these rules has its value exactly if they all hold, and a refusal gives the lowest number that applies
@@ -156,12 +158,6 @@ lower-is (suc a) (suc b) ne = (decided (decLt a b), inr (omega arith), inr (omeg
     decided (yes l) = inl (omega arith, λ z. omega arith)
     decided (no nl) = inr (omega arith, λ z. omega arith)
 
-lower-none : (a b : ℕ) → lower a b ≡ 0 → (a ≡ 0) × (b ≡ 0)
-unfolding lower
-lower-none zero b e = (refl, e)
-lower-none (suc a) zero e = absurd (omega arith)
-lower-none (suc a) (suc b) e = absurd (omega arith)
-
 -- `same` has two codes: its number is the lowest that applies to either, "the lowest of both cards"
 module _ (c₁ : Parameters) (h₁ : List ℕ) (c₂ : Parameters) (h₂ : List ℕ) where
   abbrev rules₁ : List Rule
@@ -176,7 +172,7 @@ module _ (c₁ : Parameters) (h₁ : List ℕ) (c₂ : Parameters) (h₂ : List 
     λ holds. given NotCompared _ (ap₂ lower (fault-none rules₁ (holds .0)) (fault-none rules₂ (holds .1))),
     λ e.
         let none = value-none NotCompared _ (compared-apart (sameCode c₁ h₁ c₂ h₂)) (lower (fault rules₁) (fault rules₂)) e in
-        let (p, q) = lower-none (fault rules₁) (fault rules₂) none in
+        let (p, q) = lowest-none (fault rules₁) (fault rules₂) none in
         (hold rules₁ tt p, hold rules₂ tt q),
   )
 

@@ -16,6 +16,7 @@ use borrow.Author.Tests.{eq-eqb, ne-eqb, not-true}
 use Rattle.algebra.specs.All.{both-hold}
 use Rattle.algebra.specs.Lists.{entryOf}
 use Rattle.algebra.specs.Tabulate.{getD-tabulate}
+use Rattle.refusals.specs.Answered.{done-apart, done-none}
 use Rattle.refusals.specs.declared.Outcome.the-variants.{Done, Refused}
 use Rattle.refusals.specs.Rules.{fault-none, hold, given}
 use Rattle.field.specs.Gf.{Width, gf, gf-laws}
@@ -43,7 +44,6 @@ use Rattle.words.specs.Answers.{bitRules, syndromeFault, syndromeAnswer, syndro
 use Rattle.words.specs.Answers.{encodeFault, encodeAnswer, encodeAfter, messageFault, messageAnswer, messageAfter}
 use Rattle.demands.specs.CodeWords.{CodeWord, code-word-on, code-word}
 use Rattle.demands.specs.Demand1.{block-inverse-refuses}
-use Rattle.demands.specs.Outcomes.{done-apart, done-none}
 
 -- ---- codes
 

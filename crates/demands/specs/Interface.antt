@@ -12,6 +12,7 @@ use lib.ListN.{length}
 use lib.Pow.{pow-mono}
 use Rattle.algebra.specs.Places.{count-le}
 use Rattle.algebra.specs.Xor.{_⊕_, ⊕-lt}
+use Rattle.refusals.specs.Answered.{value-none, refused-due, done-apart, same-outcome, counted-apart, same-counted}
 use Rattle.refusals.specs.declared.Counted.the-variants.{Count, Refused as NotCounted}
 use Rattle.refusals.specs.declared.Outcome.the-variants.{Done, Refused}
 use Rattle.refusals.specs.Rules.{Rule, _unless_, fault, first-holds, hold, unless-refused}
@@ -52,8 +53,8 @@ use Rattle.listing.specs.Answers.{roomRules, sheetListing, listingFault, listin
 use Rattle.wire.specs.Wire.{minus, elementCode, outcomeCode, samenessCode, countedCode, recoveryCode, readingCode}
 use Rattle.wire.specs.Readings.{reading-whole}
 use Rattle.demands.specs.Lowest.{upTo, fault-up-to}
-use Rattle.demands.specs.Outcomes.{value-none, refused-due, done-apart, same-outcome, element-apart, same-element}
-use Rattle.demands.specs.Outcomes.{counted-apart, same-counted, repaired-apart, same-recovery, read-apart, same-reading}
+use Rattle.demands.specs.Outcomes.{element-apart, same-element}
+use Rattle.demands.specs.Outcomes.{repaired-apart, same-recovery, read-apart, same-reading}
 use Rattle.demands.specs.Outcomes.{compared-apart, same-sameness}
 
 -- the greatest number of 01's table

@@ -1,55 +1,15 @@
--- What an answer says of the number that was due: a refusal tells it and leaves the buffers alone, and a value says that there was none.
-use mathlib.Core.Path.{_≡_, refl, sym}
+-- The answers of the calls: values are no refusals, and refusals tell their numbers. Those of `refusals` stand there.
+use mathlib.Core.Path.{_≡_}
 use mathlib.Core.Logic.{_≢_}
-use Prim.Native.Nat.{ℕ, zero, suc}
-use native.Mathlib.Omega.{arith}
 use mathlib.Core.Bool.{Bool, true, false}
-use mathlib.Core.List.{List}
-use Rattle.refusals.specs.declared.Counted.the-variants.{Count, Refused as NotCounted}
-use Rattle.refusals.specs.declared.Outcome.the-variants.{Done, Refused}
+use Prim.Native.Nat.{ℕ}
+use native.Mathlib.Omega.{arith}
 use Rattle.field.specs.declared.Answer.the-variants.{Element, Refused as NoElement}
 use Rattle.codes.specs.declared.Sameness.the-variants.{Refused as NotCompared}
 use Rattle.codes.specs.Answers.{compared}
 use Rattle.repair.specs.declared.Recovery.the-variants.{Repaired, Refused as NotRepaired}
 use Rattle.gears.specs.declared.Row.{Row}
 use Rattle.rows.specs.declared.Reading.the-variants.{Read, Refused as NotRead}
-use Rattle.refusals.specs.Rules.{Rule, Hold, fault, fault-none, unless-refused, given}
-
--- for any kind of answer whose value is no refusal
-module _ {A : Type 0} (refused : ℕ → A) (value : A) (apart : (k : ℕ) → refused k ≢ value) where
-  pub value-none : (k : ℕ) → unless-refused k refused value ≡ value → k ≡ 0
-  unfolding unless-refused
-  value-none zero e = refl
-  value-none (suc k) e = absurd (apart (suc k) e)
-
-  pub refused-leaves : {B : Type 0} (k : ℕ) (old new : B) {j : ℕ} → unless-refused k refused value ≡ refused j
-      → unless-refused k (λ i. old) new ≡ old
-  unfolding unless-refused
-  refused-leaves zero old new {j} e = absurd (apart j (sym e))
-  refused-leaves (suc k) old new e = refl
-
-  -- and its number is the one that was due
-  pub refused-due : ((i j : ℕ) → refused i ≡ refused j → i ≡ j) → (k : ℕ) {j : ℕ} → unless-refused k refused value ≡ refused j
-      → (k ≢ 0) × (k ≡ j)
-  unfolding unless-refused
-  refused-due same zero {j} e = absurd (apart j (sym e))
-  refused-due same (suc k) {j} e = (λ z. omega arith, same (suc k) j e)
-
--- rules that hold refuse nothing
-pub holds-given : {A : Type 0} (rules : List Rule) (refused : ℕ → A) (value : A) → Hold rules → unless-refused (fault rules) refused value ≡ value
-holds-given rules refused value holds = given refused value (fault-none rules holds)
-
--- ---- the answers of the calls: values are no refusals, and refusals tell their numbers
-
-pub done-apart : (k : ℕ) → Refused k ≢ Done
-done-apart k e =
-    let z : _≡_ {A = ℕ} 0 1 = cc in absurd (omega arith)
-
-pub done-none : (k : ℕ) → unless-refused k Refused Done ≡ Done → k ≡ 0
-done-none = value-none Refused Done done-apart
-
-pub same-outcome : (i j : ℕ) → Refused i ≡ Refused j → i ≡ j
-same-outcome i j e = cc
 
 pub element-apart : (a k : ℕ) → NoElement k ≢ Element a
 element-apart a k e =
@@ -57,13 +17,6 @@ element-apart a k e =
 
 pub same-element : (i j : ℕ) → NoElement i ≡ NoElement j → i ≡ j
 same-element i j e = cc
-
-pub counted-apart : (n k : ℕ) → NotCounted k ≢ Count n
-counted-apart n k e =
-    let z : _≡_ {A = ℕ} 0 1 = cc in absurd (omega arith)
-
-pub same-counted : (i j : ℕ) → NotCounted i ≡ NotCounted j → i ≡ j
-same-counted i j e = cc
 
 pub repaired-apart : (n k : ℕ) → NotRepaired k ≢ Repaired n
 repaired-apart n k e =

@@ -15,6 +15,7 @@ use Rattle.algebra.specs.All.{refuted}
 use Rattle.algebra.specs.Lists.{entryOf}
 use Rattle.algebra.specs.Places.{count-le}
 use Rattle.algebra.specs.Tabulate.{getD-tabulate}
+use Rattle.refusals.specs.Answered.{counted-apart, same-counted, refused-due}
 use Rattle.refusals.specs.declared.Counted.the-variants.{Count, Refused}
 use Rattle.refusals.specs.Rules.{fault, fault-here, fault-past, fault-empty, refuse, given}
 use Rattle.field.specs.Gf.{gf}
@@ -39,7 +40,6 @@ use Rattle.lines.specs.Listing.{supportOf, listingText, listingLength, longestL
 use Rattle.listing.specs.Answers.{roomRules, sheetListing, listingFault, listingAnswer, listingAfter, printedText, printedAnswer}
 use Rattle.listing.specs.Laws.{printed-short, printed-done}
 use Rattle.demands.specs.Lowest.{fault-up-to}
-use Rattle.demands.specs.Outcomes.{counted-apart, same-counted, refused-due}
 
 -- a text that is printed for a code, whose numbers fit
 pub record PrintedSheet (text : List ℕ) : Type 0 where

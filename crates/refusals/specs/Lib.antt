@@ -1,2 +1,3 @@
 pub mod Rules
 pub mod Ending
+pub mod Answered

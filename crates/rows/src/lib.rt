@@ -2,7 +2,7 @@
 //
 // The calls of this file take any input, for the whole code. What they are made of stands in `internal`, for an accepted code and any selection of
 // its columns.
-pub mod internal;
+mod internal;
 
 use basis::Column;
 use field::Elem;

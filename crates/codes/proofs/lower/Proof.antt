@@ -1,7 +1,7 @@
 -- `lower` meets its contract.
 use mathlib.Core.Path.{sym}
 use native.Mathlib.Omega.{arith}
-use Rattle.codes.proofs.Lowest.{lowest-left, lowest-right, lowest-min}
+use Rattle.codes.specs.Lowest.{lowest-left, lowest-right, lowest-min}
 use Rattle.codes.proofs.lower.Statement.{statement}
 use Rattle.codes.proofs.lower.Tie as tie
 
