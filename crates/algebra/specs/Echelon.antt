@@ -12,8 +12,10 @@ use native.Mathlib.Decide.{ℕ-discrete}
 use native.Mathlib.Omega.{arith}
 use lib.Dec.{eqb}
 use borrow.Author.Tests.{eq-eqb, ne-eqb}
-use Rattle.algebra.specs.Field.{Ops, Laws, ring, nought-mul, mul-nought, add-eq}
-use Rattle.algebra.specs.Sum.{sum, sum-cong, sum-nought, sum-add, sum-split, in-sum}
+use Rattle.algebra.specs.Field.{Ops, Laws}
+use Rattle.algebra.specs.FieldLaws.{ring, nought-mul, mul-nought, add-eq}
+use Rattle.algebra.specs.Sum.{sum}
+use Rattle.algebra.specs.SumLaws.{sum-cong, sum-nought, sum-add, sum-split, in-sum}
 
 module _ {A : Type 0} (K : Ops A) where
   -- what a row says of a word of n entries

@@ -9,9 +9,10 @@ use Prim.Native.Nat.{ℕ, zero, suc, _+_ as _+ℕ_, _<_, _≤_}
 use native.Mathlib.Nat.{not-suc-le-zero}
 use native.Mathlib.Decide.{ℕ-discrete, decLt}
 use native.Mathlib.Omega.{arith}
-use Rattle.algebra.specs.All.{below-suc}
-use Rattle.algebra.specs.Field.{Ops, Laws, add-nought, nought-mul, mul-nought, mul-one, mul-cancel, inv≢nought}
-use Rattle.algebra.specs.Sum.{sum-cong, sum-nought, sum-mul, in-sum}
+use Rattle.algebra.specs.AllLaws.{below-suc}
+use Rattle.algebra.specs.Field.{Ops, Laws}
+use Rattle.algebra.specs.FieldLaws.{add-nought, nought-mul, mul-nought, mul-one, mul-cancel, inv≢nought}
+use Rattle.algebra.specs.SumLaws.{sum-cong, sum-nought, sum-mul, in-sum}
 use Rattle.algebra.specs.Echelon.{dot, dot-add, Echelon, Solves, Inside, put, put-at, put-other}
 
 module _ {A : Type 0} (K : Ops A) (F : Laws K) (n : ℕ) where

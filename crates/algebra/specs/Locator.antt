@@ -11,7 +11,8 @@ use mathlib.Core.Path.{_≡_, ap, _∙_}
 use mathlib.Core.Logic.{_≢_}
 use Prim.Native.Nat.{ℕ, _+_, _*_, _<_, _≤_}
 use native.Mathlib.Omega.{arith}
-use Rattle.algebra.specs.Field.{Ops, Laws, mul-cancel}
+use Rattle.algebra.specs.Field.{Ops, Laws}
+use Rattle.algebra.specs.FieldLaws.{mul-cancel}
 use Rattle.algebra.specs.Sum.{sum}
 use Rattle.algebra.specs.Poly.{poly-in, poly-roots}
 use Rattle.algebra.specs.Locator.Split.{Halves, value, in-value, discrepancy, det, det-comm, det-poly, orthogonal, common-root, simple-root}

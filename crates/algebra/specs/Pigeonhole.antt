@@ -5,7 +5,7 @@ use Prim.Native.Nat.{ℕ, zero, suc, _<_, _≤_}
 use native.Mathlib.Nat.{not-suc-le-zero}
 use native.Mathlib.Decide.{ℕ-discrete}
 use native.Mathlib.Omega.{arith}
-use Rattle.algebra.specs.Poly.{Distinct}
+use Rattle.algebra.specs.Distinct.{Distinct}
 
 -- x, but v in the place of b
 instead : {x b : ℕ} → Dec (x ≡ b) → ℕ → ℕ

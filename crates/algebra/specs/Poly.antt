@@ -8,15 +8,13 @@ use mathlib.Core.Logic.{_≢_}
 use Prim.Native.Nat.{ℕ, zero, suc, pred, _+_ as _+ℕ_, _<_, _≤_, suc-le-suc}
 use native.Mathlib.Nat.{suc-add, not-suc-le-zero, le-of-suc-le-suc, le-suc, le-add-left, pred-le}
 use native.Mathlib.Omega.{arith}
-use Rattle.algebra.specs.Field.{Ops, Laws, ring, add-nought, add-mul, mul-nought, nought-mul, lin, mul-cancel, add-eq}
+use Rattle.algebra.specs.Field.{Ops, Laws}
+use Rattle.algebra.specs.FieldLaws.{ring, add-nought, add-mul, mul-nought, nought-mul, lin, mul-cancel, add-eq}
+use Rattle.algebra.specs.Distinct.{Distinct}
 
 pub data Poly {A : Type 0} (K : Ops A) : ℕ → (A → A) → Type 0 where
   vanish : {n : ℕ} {f : A → A} → ((y : A) → f y ≡ K .nought) → Poly K n f
   horner : {n : ℕ} {f g : A → A} (a : A) → K .In a → Poly K n g → ((y : A) → f y ≡ K .add a (K .mul y (g y))) → Poly K (suc n) f
-
--- the first n of the points r are different
-abbrev pub Distinct : {A : Type 0} → ℕ → (ℕ → A) → Type 0
-Distinct n r = (i j : ℕ) → i < j → j < n → r i ≢ r j
 
 pub poly-cong : {A : Type 0} {K : Ops A} {n : ℕ} {f g : A → A} → ((y : A) → g y ≡ f y) → Poly K n f → Poly K n g
 poly-cong e (vanish z) = vanish (λ y. e y ∙ z y)

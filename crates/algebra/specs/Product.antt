@@ -5,7 +5,8 @@ use mathlib.Core.Path.{_≡_, _∙_}
 use mathlib.Core.Logic.{_≢_}
 use Prim.Native.Nat.{ℕ, zero, suc, _<_}
 use native.Mathlib.Nat.{lt-suc-self, le-step}
-use Rattle.algebra.specs.Field.{Ops, Laws, ring, no-zero-divisors, inv-unique}
+use Rattle.algebra.specs.Field.{Ops, Laws}
+use Rattle.algebra.specs.FieldLaws.{ring, no-zero-divisors, inv-unique}
 
 unfoldable pub prod : {A : Type 0} → Ops A → ℕ → (ℕ → A) → A
 prod K zero f = K .one

@@ -6,7 +6,8 @@ use native.Mathlib.Nat.{not-suc-le-zero, le-refl}
 use native.Mathlib.Omega.{arith}
 use borrow.Author.Count.{below-more}
 use lib.ListN.{length}
-use Rattle.algebra.specs.Xor.{_⊕_, zero-⊕}
+use Rattle.algebra.specs.Xor.{_⊕_}
+use Rattle.algebra.specs.XorLaws.{zero-⊕}
 use Rattle.basis.specs.Packed.{packedBit, Packs, Cleared, Marked}
 
 pub record Building (f : ℕ → ℕ) (n : ℕ) (row : List ℕ) (j : ℕ) : Type 0 where

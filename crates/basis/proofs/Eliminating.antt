@@ -10,12 +10,14 @@ use borrow.Author.Count.{below-more}
 use lib.Arith.{digits-div, digits-mod, digits-lt}
 use lib.Dec.{eqb}
 use lib.ListN.{length}
-use Rattle.algebra.specs.Bits.{gf2, gf2-laws}
+use Rattle.algebra.specs.Gf2.{gf2}
+use Rattle.algebra.specs.Gf2Laws.{gf2-laws}
 use Rattle.algebra.specs.Echelon.{Solves, Inside, dot, dot-cong, agree}
-use Rattle.algebra.specs.Field.{mul-nought}
+use Rattle.algebra.specs.FieldLaws.{mul-nought}
 use Rattle.algebra.specs.Lists.{entryOf}
-use Rattle.algebra.specs.Places.{count, count-le, count-full, count-none}
-use Rattle.algebra.specs.Sum.{sum-nought}
+use Rattle.algebra.specs.Places.{count}
+use Rattle.algebra.specs.PlaceLaws.{count-le, count-full, count-none}
+use Rattle.algebra.specs.SumLaws.{sum-nought}
 use Rattle.field.specs.Words.{widest}
 use Rattle.field.specs.Gf.{Width}
 use Rattle.slices.specs.Lengths.{longest}

@@ -11,13 +11,18 @@ use borrow.Author.Count.{below-more}
 use lib.Dec.{eqb}
 use lib.ListN.{length, take, drop, set, length-set}
 use lib.Seq.{getD-set-same, getD-set-other}
-use Rattle.algebra.specs.Bits.{bitAt, bitAt-lt, gf2, gf2-laws}
+use Rattle.algebra.specs.Bits.{bitAt}
+use Rattle.algebra.specs.BitLaws.{bitAt-lt}
+use Rattle.algebra.specs.Gf2.{gf2}
+use Rattle.algebra.specs.Gf2Laws.{gf2-laws}
 use Rattle.algebra.specs.Echelon.{Echelon, Solves, dot, dot-cong, dot-add, put, put-at, put-other}
 use Rattle.algebra.specs.Elimination.{stored-solves, stored-echelon, dot-empty}
 use Rattle.algebra.specs.Lists.{entryOf}
-use Rattle.algebra.specs.Places.{count, count-tests}
+use Rattle.algebra.specs.Places.{count}
+use Rattle.algebra.specs.PlaceLaws.{count-tests}
 use Rattle.algebra.specs.Splice.{length-spliced, spliced-inside, spliced-before, spliced-after}
-use Rattle.algebra.specs.Xor.{_⊕_, ⊕-self, ⊕-zero}
+use Rattle.algebra.specs.Xor.{_⊕_}
+use Rattle.algebra.specs.XorLaws.{⊕-self, ⊕-zero}
 use Rattle.slices.specs.Lengths.{longest}
 use Rattle.basis.specs.Packed.{packedBit, Added}
 use Rattle.basis.specs.Table.{rowWords, rowBit, leadAt, Form, RowFits, Reduced, Stored, Inserted}

@@ -7,9 +7,13 @@ use native.Mathlib.Decide.{ℕ-discrete}
 use native.Mathlib.Omega.{arith}
 use lib.ListN.{length, set, length-set}
 use lib.Seq.{getD-set-same, getD-set-other}
-use Rattle.algebra.specs.Bits.{bitAt, bitAt-⊕, bitAt-zero, shifted-at, shifted-other}
-use Rattle.algebra.specs.Tabulate.{tabulate, length-tabulate, getD-tabulate}
-use Rattle.algebra.specs.Xor.{_⊕_, ⊕-zero}
+use Rattle.algebra.specs.Bits.{bitAt}
+use Rattle.algebra.specs.BitLaws.{bitAt-⊕, bitAt-zero}
+use Rattle.algebra.specs.FromBits.{shifted-at, shifted-other}
+use Rattle.algebra.specs.Tabulate.{tabulate}
+use Rattle.algebra.specs.TabulateLaws.{length-tabulate, getD-tabulate}
+use Rattle.algebra.specs.Xor.{_⊕_}
+use Rattle.algebra.specs.XorLaws.{⊕-zero}
 use Rattle.algebra.specs.Lists.{entryOf}
 
 -- bit p of a packed row

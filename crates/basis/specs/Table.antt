@@ -7,7 +7,8 @@ use mathlib.Core.List.{List}
 use Prim.Native.Nat.{ℕ, _+_, _*_, _/_, _%_, _≤_, _<_}
 use lib.Dec.{eqb}
 use lib.ListN.{length}
-use Rattle.algebra.specs.Bits.{bitAt, gf2}
+use Rattle.algebra.specs.Bits.{bitAt}
+use Rattle.algebra.specs.Gf2.{gf2}
 use Rattle.algebra.specs.Echelon.{Echelon, Solves, Inside, dot, rest, put}
 use Rattle.algebra.specs.Lists.{entryOf}
 use Rattle.algebra.specs.Places.{count}

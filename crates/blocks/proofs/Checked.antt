@@ -6,12 +6,15 @@ use Prim.Native.Nat.{ℕ, _^_, _<_}
 use lib.ListN.{length}
 use borrow.Author.Tests.{eqb-true}
 use Rattle.algebra.specs.Lists.{entry}
-use Rattle.algebra.specs.Sum.{in-sum}
-use Rattle.refusals.specs.Rules.{Rule, fault, fault-first, fault-rest, hold}
-use Rattle.field.specs.Gf.{Width, gf, gf-laws}
-use Rattle.field.specs.Range.{width-is}
-use Rattle.slices.specs.Lengths.{power-is}
-use Rattle.slices.specs.Elements.{Elements, elements-are}
+use Rattle.algebra.specs.SumLaws.{in-sum}
+use Rattle.refusals.specs.Rules.{Rule, fault}
+use Rattle.refusals.specs.RuleLaws.{fault-first, fault-rest, hold}
+use Rattle.field.specs.Gf.{Width, gf}
+use Rattle.field.specs.GfLaws.{gf-laws}
+use Rattle.field.specs.RangeLaws.{width-is}
+use Rattle.slices.specs.LengthLaws.{power-is}
+use Rattle.slices.specs.Elements.{Elements}
+use Rattle.slices.specs.ElementLaws.{elements-are}
 use Rattle.dyadic.specs.Block.{total}
 use Rattle.blocks.specs.Answers.{sizeRules, sizeFault, blockRules, blockFault, pairRules, pairFault}
 use Rattle.dyadic.specs.Callers.{Factors}

@@ -4,7 +4,8 @@ use mathlib.Core.Bool.{Bool, true, _&&_}
 use mathlib.Core.List.{List, [], _∷_}
 use Prim.Native.Nat.{ℕ}
 use lib.ListN.{length}
-use Rattle.algebra.specs.All.{all, some, both-true}
+use Rattle.algebra.specs.All.{all, some}
+use Rattle.algebra.specs.Flags.{both-true}
 use Rattle.algebra.specs.Bits.{bitAt}
 use Rattle.algebra.specs.Sum.{sum}
 use Rattle.algebra.specs.Tabulate.{tabulate}
@@ -27,7 +28,8 @@ use Rattle.params.specs.Code.{codeFault, isLength, isRootCount, shapeRules, cod
 use Rattle.codes.specs.Answers.{checkFault, checkAnswer, supportAfter}
 use Rattle.signature.specs.Tests.{signatureRules, inverseAt, nonzero, noZero, pairKept, affine, linear, distinct}
 use Rattle.signature.specs.Signature.{rootAt, supportAt}
-use Rattle.algebra.specs.Lists.{sameEntry, sameList, sameList-is}
+use Rattle.algebra.specs.Lists.{sameEntry, sameList}
+use Rattle.algebra.specs.ListLaws.{sameList-is}
 use Rattle.messages.specs.MessageRules.{messageRules}
 use Rattle.words.specs.Answers.{encodeFault, encodeAnswer, encodeAfter}
 use Rattle.parity.specs.Columns.{wordOf, isSumOf, isSum, isMessageColumn, dimension, messageOf, encodingOf}

@@ -9,10 +9,12 @@ use native.Mathlib.Omega.{arith}
 use lib.Dec.{eqb}
 use lib.ListN.{length, getD}
 use borrow.Author.Tests.{eq-eqb}
-use Rattle.algebra.specs.All.{both-hold}
+use Rattle.algebra.specs.Flags.{both-hold}
 use Rattle.algebra.specs.Field.{Ops}
-use Rattle.algebra.specs.Tabulate.{tabulate, getD-tabulate}
-use Rattle.field.specs.Gf.{gf, gf-laws}
+use Rattle.algebra.specs.Tabulate.{tabulate}
+use Rattle.algebra.specs.TabulateLaws.{getD-tabulate}
+use Rattle.field.specs.Gf.{gf}
+use Rattle.field.specs.GfLaws.{gf-laws}
 use Rattle.refusals.specs.Answered.{done-none}
 use Rattle.refusals.specs.Rules.{unless-refused}
 use Rattle.refusals.specs.declared.Outcome.the-variants.{Done, Refused}

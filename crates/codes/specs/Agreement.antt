@@ -10,7 +10,8 @@ use Rattle.params.specs.declared.Parameters.{Parameters}
 use Rattle.codes.specs.declared.Sameness.the-variants.{Same, Refused}
 use Rattle.params.specs.Accepted.{accepts}
 use Rattle.params.specs.Code.{Accepted, codeFault}
-use Rattle.codes.specs.Same.{sameCode, Agree, sameCode-is}
+use Rattle.codes.specs.Same.{sameCode}
+use Rattle.codes.specs.SameLaws.{Agree, sameCode-is}
 use Rattle.codes.specs.Answers.{lowest, compared, sameFault, sameAnswer}
 
 compared-same : (b : Bool) → (compared b ≡ Same) ↔ (b ≡ true)

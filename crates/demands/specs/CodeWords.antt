@@ -5,12 +5,12 @@ use Prim.Native.Nat.{ℕ, _<_}
 use lib.Dec.{eqb}
 use lib.ListN.{length}
 use borrow.Author.Tests.{eqb-true, eq-eqb}
-use Rattle.algebra.specs.All.{all-is, all-true}
+use Rattle.algebra.specs.AllLaws.{all-is, all-true}
 use Rattle.slices.specs.Bits.{Bits, IsBits}
 use Rattle.params.specs.declared.Parameters.{Parameters}
 use Rattle.parity.specs.Selected.{length-whole}
 use Rattle.parity.specs.Word.{whole, syndromeAt, isCodeWord}
-use Rattle.nearest.specs.Demand.{CodeWord as CodeWordOn}
+use Rattle.nearest.specs.CodeWord.{CodeWord as CodeWordOn}
 
 -- 01: "It is a code word if for every i below t the sum of 1/(z_i + L_j) over the places j that hold 1 is zero."
 pub record CodeWord (c : Parameters) (h w : List ℕ) : Type 0 where

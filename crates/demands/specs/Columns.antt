@@ -7,12 +7,17 @@ use mathlib.Core.List.{List}
 use Prim.Native.Nat.{ℕ, zero, suc, _^_, _<_}
 use lib.Dec.{eqb}
 use borrow.Author.Tests.{eqb-true, eq-eqb}
-use Rattle.algebra.specs.All.{all-is, all-true, some-is, some-true}
-use Rattle.algebra.specs.Bits.{bitAt, bitAt-zero, bitAt-⊕, bits-zero, gf2}
+use Rattle.algebra.specs.AllLaws.{all-is, all-true, some-is, some-true}
+use Rattle.algebra.specs.Bits.{bitAt}
+use Rattle.algebra.specs.BitLaws.{bitAt-zero, bitAt-⊕, bits-zero}
+use Rattle.algebra.specs.Gf2.{gf2}
 use Rattle.algebra.specs.Lists.{entryOf}
-use Rattle.algebra.specs.Sum.{sum, sum-cong, in-sum}
-use Rattle.algebra.specs.Xor.{_⊕_, ⊕-self, ⊕-lt, ⊕-eq}
-use Rattle.field.specs.Gf.{Width, gf, gf-laws}
+use Rattle.algebra.specs.Sum.{sum}
+use Rattle.algebra.specs.SumLaws.{sum-cong, in-sum}
+use Rattle.algebra.specs.Xor.{_⊕_}
+use Rattle.algebra.specs.XorLaws.{⊕-self, ⊕-lt, ⊕-eq}
+use Rattle.field.specs.Gf.{Width, gf}
+use Rattle.field.specs.GfLaws.{gf-laws}
 use Rattle.params.specs.declared.Parameters.{Parameters}
 use Rattle.parity.specs.Columns.{isSumOf, isSum, isMessageColumn}
 use Rattle.parity.specs.Parity.{held-in, bitAt-sum}

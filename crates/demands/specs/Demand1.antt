@@ -18,7 +18,8 @@ use Rattle.algebra.specs.Xor.{_⊕_}
 use Rattle.refusals.specs.Answered.{value-none, refused-leaves, refused-due, holds-given, done-apart, same-outcome, counted-apart, same-counted}
 use Rattle.refusals.specs.declared.Counted.the-variants.{Count, Refused as NotCounted}
 use Rattle.refusals.specs.declared.Outcome.the-variants.{Done, Refused}
-use Rattle.refusals.specs.Rules.{Rule, _unless_, Hold, fault, fault-none, hold, unless-refused, given}
+use Rattle.refusals.specs.Rules.{Rule, _unless_, Hold, fault, unless-refused}
+use Rattle.refusals.specs.RuleLaws.{fault-none, hold, given}
 use Rattle.field.specs.declared.Answer.the-variants.{Element, Refused as NoElement}
 use Rattle.field.specs.Answers.{elementRules, pairFault, sumAnswer, productAnswer, inverseFault, inverseAnswer}
 use Rattle.field.specs.Product.{product, inverse}
@@ -51,8 +52,7 @@ use Rattle.sheets.specs.Fault.{sheetRules}
 use Rattle.sheets.specs.Sheet.{sheetParameters, sheetH, isSheet}
 use Rattle.demands.specs.Lowest.{rising, Fails, HoldBelow, Lowest, lowest, rising-numbered, below-fault}
 use Rattle.demands.specs.Lowest.{allRules, risingParts, InOrder, parts-numbered, in-order}
-use Rattle.demands.specs.Outcomes.{element-apart, same-element}
-use Rattle.demands.specs.Outcomes.{repaired-apart, same-recovery, read-apart, same-reading}
+use Rattle.demands.specs.Outcomes.{element-apart, same-element, repaired-apart, same-recovery, read-apart, same-reading}
 use Rattle.demands.specs.Outcomes.{compared-apart, same-sameness}
 
 -- a call with these rules has its value exactly if they all hold, and a refusal gives the lowest number that applies

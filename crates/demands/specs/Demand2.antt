@@ -13,17 +13,22 @@ use native.Mathlib.Omega.{arith}
 use lib.Dec.{eqb}
 use lib.ListN.{length}
 use borrow.Author.Tests.{eq-eqb, ne-eqb, not-true}
-use Rattle.algebra.specs.All.{both-hold}
+use Rattle.algebra.specs.Flags.{both-hold}
 use Rattle.algebra.specs.Lists.{entryOf}
-use Rattle.algebra.specs.Tabulate.{getD-tabulate}
+use Rattle.algebra.specs.TabulateLaws.{getD-tabulate}
 use Rattle.refusals.specs.Answered.{done-apart, done-none}
 use Rattle.refusals.specs.declared.Outcome.the-variants.{Done, Refused}
-use Rattle.refusals.specs.Rules.{fault-none, hold, given}
-use Rattle.field.specs.Gf.{Width, gf, gf-laws}
-use Rattle.field.specs.Range.{isWidth, width-is}
-use Rattle.slices.specs.Bits.{Bits, allBits, bits-are}
-use Rattle.slices.specs.Elements.{Elements, allElements, elements-are}
-use Rattle.slices.specs.Lengths.{isPower, power-is}
+use Rattle.refusals.specs.RuleLaws.{fault-none, hold, given}
+use Rattle.field.specs.Gf.{Width, gf}
+use Rattle.field.specs.GfLaws.{gf-laws}
+use Rattle.field.specs.Range.{isWidth}
+use Rattle.field.specs.RangeLaws.{width-is}
+use Rattle.slices.specs.Bits.{Bits, allBits}
+use Rattle.slices.specs.BitLaws.{bits-are}
+use Rattle.slices.specs.Elements.{Elements, allElements}
+use Rattle.slices.specs.ElementLaws.{elements-are}
+use Rattle.slices.specs.Lengths.{isPower}
+use Rattle.slices.specs.LengthLaws.{power-is}
 use Rattle.signature.specs.Signature.{Cauchy, HasCauchy}
 use Rattle.dyadic.specs.Block.{matrix, blockSum, blockProduct, total, blockInverse}
 use Rattle.dyadic.specs.Laws.{matrix-sum, matrix-product, left-inverse, right-inverse, no-left-inverse, no-right-inverse}
@@ -31,9 +36,9 @@ use Rattle.dyadic.specs.Matrix.{Matrix, Same, matrixSum, matrixProduct, identit
 use Rattle.blocks.specs.Answers.{sizeRules, blockRules, pairRules, inverseRules, pairFault, inverseFault}
 use Rattle.blocks.specs.Answers.{sumAnswer, sumAfter, productAnswer, productAfter, inverseAnswer, inverseAfter}
 use Rattle.params.specs.declared.Parameters.{Parameters}
-use Rattle.params.specs.Accepted.{withOffset, offset-accepted}
+use Rattle.params.specs.Code.{withOffset, Limits, Accepted}
+use Rattle.params.specs.Accepted.{offset-accepted}
 use Rattle.params.specs.Calls.{code-leaves}
-use Rattle.params.specs.Code.{Limits, Accepted}
 use Rattle.codes.specs.Answers.{checkAnswer, rootsAfter, supportAfter}
 use Rattle.codes.specs.Acceptance.{accepted-done, done-exactly, done-pair, done-short}
 use Rattle.parity.specs.Columns.{messageOf, encodingOf, messageLength}

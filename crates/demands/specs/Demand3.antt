@@ -10,9 +10,11 @@ use Prim.Native.Nat.{ℕ, _<_, _≤_}
 use native.Mathlib.Omega.{arith}
 use lib.ListN.{length}
 use borrow.Author.Tests.{eq-eqb}
-use Rattle.algebra.specs.All.{both-hold}
-use Rattle.refusals.specs.Rules.{_unless_, fault, fault-here, fault-past, fault-empty, refuse, given}
-use Rattle.slices.specs.Bits.{IsBits, all-bits}
+use Rattle.algebra.specs.Flags.{both-hold}
+use Rattle.refusals.specs.Rules.{_unless_, fault}
+use Rattle.refusals.specs.RuleLaws.{fault-here, fault-past, fault-empty, refuse, given}
+use Rattle.slices.specs.Bits.{IsBits}
+use Rattle.slices.specs.BitLaws.{all-bits}
 use Rattle.params.specs.declared.Parameters.{Parameters}
 use Rattle.params.specs.Calls.{code-leaves}
 use Rattle.params.specs.Code.{Accepted}

@@ -3,16 +3,16 @@ use mathlib.Core.Path.{_≡_, sym, ap, _∙_, subst}
 use mathlib.Core.Logic.{_≢_, _↔_}
 use mathlib.Core.Bool.{not}
 use Prim.Native.Nat.{ℕ, _+_, _^_, _<_}
-use native.Mathlib.Omega.{arith}
 use borrow.Author.Tests.{ne-eqb}
-use Rattle.algebra.specs.Field.{inv-unique}
+use Rattle.algebra.specs.FieldLaws.{inv-unique}
 use Rattle.algebra.specs.Xor.{_⊕_}
 use Rattle.field.specs.declared.Answer.the-variants.{Element}
 use Rattle.field.specs.Answers.{elementRules, productAnswer, inverseAnswer}
 use Rattle.field.specs.Division.{quotient, product-divides, product-only}
-use Rattle.field.specs.Gf.{Width, gf, gf-isField, gf-laws}
+use Rattle.field.specs.Gf.{Width, gf}
+use Rattle.field.specs.GfLaws.{gf-isField, gf-laws}
 use Rattle.field.specs.Product.{polyProduct, product, inverse}
-use Rattle.field.specs.Range.{width, element}
+use Rattle.field.specs.RangeLaws.{width, element}
 use Rattle.field.specs.Ring.{product-lt}
 use Rattle.field.specs.Words.{word}
 use Rattle.demands.specs.Demand1.{field-product-refuses, field-inverse-refuses}

@@ -10,17 +10,20 @@ use native.Mathlib.Omega.{arith}
 use lib.Dec.{eqb}
 use lib.ListN.{length}
 use lib.Pow.{pow-mono}
-use Rattle.algebra.specs.Places.{count-le}
-use Rattle.algebra.specs.Xor.{_⊕_, ⊕-lt}
+use Rattle.algebra.specs.PlaceLaws.{count-le}
+use Rattle.algebra.specs.Xor.{_⊕_}
+use Rattle.algebra.specs.XorLaws.{⊕-lt}
 use Rattle.refusals.specs.Answered.{value-none, refused-due, done-apart, same-outcome, counted-apart, same-counted}
 use Rattle.refusals.specs.declared.Counted.the-variants.{Count, Refused as NotCounted}
 use Rattle.refusals.specs.declared.Outcome.the-variants.{Done, Refused}
-use Rattle.refusals.specs.Rules.{Rule, _unless_, fault, first-holds, hold, unless-refused}
+use Rattle.refusals.specs.Rules.{Rule, _unless_, fault, unless-refused}
+use Rattle.refusals.specs.RuleLaws.{first-holds, hold}
 use Rattle.field.specs.declared.Answer.the-variants.{Element, Refused as NoElement}
 use Rattle.field.specs.Answers.{elementRules, pairFault, sumAnswer, productAnswer, inverseFault, inverseAnswer}
-use Rattle.field.specs.Gf.{gf-isField, gf-laws}
+use Rattle.field.specs.GfLaws.{gf-isField, gf-laws}
 use Rattle.field.specs.Product.{product, inverse}
-use Rattle.field.specs.Range.{isWidth, isElement, width-is, element-is}
+use Rattle.field.specs.Range.{isWidth, isElement}
+use Rattle.field.specs.RangeLaws.{width-is, element-is}
 use Rattle.field.specs.Ring.{product-lt}
 use Rattle.field.specs.Words.{widest, word}
 use Rattle.slices.specs.Bits.{allBits}
@@ -53,8 +56,7 @@ use Rattle.listing.specs.Answers.{roomRules, sheetListing, listingFault, listin
 use Rattle.wire.specs.Wire.{minus, elementCode, outcomeCode, samenessCode, countedCode, recoveryCode, readingCode}
 use Rattle.wire.specs.Readings.{reading-whole}
 use Rattle.demands.specs.Lowest.{upTo, fault-up-to}
-use Rattle.demands.specs.Outcomes.{element-apart, same-element}
-use Rattle.demands.specs.Outcomes.{repaired-apart, same-recovery, read-apart, same-reading}
+use Rattle.demands.specs.Outcomes.{element-apart, same-element, repaired-apart, same-recovery, read-apart, same-reading}
 use Rattle.demands.specs.Outcomes.{compared-apart, same-sameness}
 
 -- the greatest number of 01's table

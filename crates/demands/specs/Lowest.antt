@@ -9,8 +9,9 @@ use native.Mathlib.Decide.{ℕ-discrete}
 use native.Mathlib.Omega.{arith}
 use lib.Dec.{T, leb}
 use borrow.Author.Tests.{leb-true}
-use Rattle.algebra.specs.All.{both-true}
-use Rattle.refusals.specs.Rules.{Rule, _unless_, Hold, fault, numbered, hold, fault-first, fault-rest}
+use Rattle.algebra.specs.Flags.{both-true}
+use Rattle.refusals.specs.Rules.{Rule, _unless_, Hold, fault, numbered}
+use Rattle.refusals.specs.RuleLaws.{hold, fault-first, fault-rest}
 
 -- the numbers rise from l on, or stay
 abbrev pub rising : ℕ → List Rule → Bool

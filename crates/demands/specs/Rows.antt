@@ -7,12 +7,14 @@ use Prim.Native.Nat.{ℕ, _≤_}
 use native.Mathlib.Omega.{arith}
 use lib.ListN.{length}
 use borrow.Author.Tests.{eq-eqb, le-leb}
-use Rattle.algebra.specs.All.{both-true, both-hold, refuted}
+use Rattle.algebra.specs.Flags.{both-true, both-hold, refuted}
 use Rattle.algebra.specs.Lists.{entryOf}
-use Rattle.algebra.specs.Places.{length-chosen}
+use Rattle.algebra.specs.PlaceLaws.{length-chosen}
 use Rattle.refusals.specs.declared.Outcome.the-variants.{Done}
-use Rattle.refusals.specs.Rules.{_unless_, fault, fault-here, fault-past, fault-empty, refuse, given}
-use Rattle.slices.specs.Bits.{Bits, IsBits, all-bits}
+use Rattle.refusals.specs.Rules.{_unless_, fault}
+use Rattle.refusals.specs.RuleLaws.{fault-here, fault-past, fault-empty, refuse, given}
+use Rattle.slices.specs.Bits.{Bits, IsBits}
+use Rattle.slices.specs.BitLaws.{all-bits}
 use Rattle.params.specs.declared.Parameters.{Parameters}
 use Rattle.params.specs.Calls.{code-leaves}
 use Rattle.params.specs.Code.{Accepted}

@@ -4,25 +4,26 @@ use mathlib.Core.Path.{_≡_, refl, sym, ap, ap₂, _∙_, subst}
 use mathlib.Core.Logic.{_↔_}
 use mathlib.Core.Bool.{Bool, true, false, cond}
 use mathlib.Core.List.{List, [], _∷_, _++_}
-use Prim.Native.Nat.{ℕ, zero, suc, _+_, _-_, _^_, _<_, _≤_}
+use Prim.Native.Nat.{ℕ, zero, suc, _-_, _^_, _<_, _≤_}
 use native.Mathlib.Omega.{arith}
 use lib.Dec.{lit<}
 use lib.ListN.{length, take, drop}
 use lib.Pow.{pow-mono}
 use lib.Seq.{take-at}
 use borrow.Author.Tests.{le-leb}
-use Rattle.algebra.specs.All.{refuted}
+use Rattle.algebra.specs.Flags.{refuted}
 use Rattle.algebra.specs.Lists.{entryOf}
-use Rattle.algebra.specs.Places.{count-le}
-use Rattle.algebra.specs.Tabulate.{getD-tabulate}
+use Rattle.algebra.specs.PlaceLaws.{count-le}
+use Rattle.algebra.specs.TabulateLaws.{getD-tabulate}
 use Rattle.refusals.specs.Answered.{counted-apart, same-counted, refused-due}
 use Rattle.refusals.specs.declared.Counted.the-variants.{Count, Refused}
-use Rattle.refusals.specs.Rules.{fault, fault-here, fault-past, fault-empty, refuse, given}
+use Rattle.refusals.specs.Rules.{fault}
+use Rattle.refusals.specs.RuleLaws.{fault-here, fault-past, fault-empty, refuse, given}
 use Rattle.field.specs.Gf.{gf}
 use Rattle.field.specs.Words.{widest}
-use Rattle.fields.specs.Fields.{greatest}
-use Rattle.fields.specs.Reading.{Small, length-numbers, numbers-at, line-small}
-use Rattle.fields.specs.Written.{over}
+use Rattle.fields.specs.Fields.{greatest, Small}
+use Rattle.fields.specs.Reading.{length-numbers, numbers-at, line-small}
+use Rattle.fields.specs.Over.{over}
 use Rattle.signature.specs.Signature.{supportAt}
 use Rattle.signature.specs.Tests.{signatureRules}
 use Rattle.params.specs.declared.Parameters.{Parameters}

@@ -11,9 +11,12 @@ use lib.Seq.{take-at, drop-at, length-take-le}
 use Rattle.algebra.specs.Field.{Laws}
 use Rattle.algebra.specs.Lists.{entry}
 use Rattle.algebra.specs.Sum.{sum}
-use Rattle.algebra.specs.Tabulate.{tabulate, filling-start, filling-turn, filling-end}
-use Rattle.algebra.specs.Xor.{_⊕_, zero-⊕}
-use Rattle.field.specs.Gf.{gf, gf-laws}
+use Rattle.algebra.specs.Tabulate.{tabulate}
+use Rattle.algebra.specs.Filling.{filling-start, filling-turn, filling-end}
+use Rattle.algebra.specs.Xor.{_⊕_}
+use Rattle.algebra.specs.XorLaws.{zero-⊕}
+use Rattle.field.specs.Gf.{gf}
+use Rattle.field.specs.GfLaws.{gf-laws}
 use Rattle.field.specs.Product.{product}
 use Rattle.field.specs.Words.{word}
 use Rattle.dyadic.specs.Block.{blockSum, blockProduct}

@@ -8,9 +8,12 @@ use native.Mathlib.Nat.{two-pow-succ}
 use native.Mathlib.Decide.{decLt}
 use native.Mathlib.Omega.{arith}
 use lib.Arith.{lt-one}
-use Rattle.algebra.specs.Field.{Ops, Laws, ring, nought-mul}
-use Rattle.algebra.specs.Sum.{sum, sum-cong, sum-split, sum-reindex, left-top, right-top, both-top}
-use Rattle.algebra.specs.Xor.{_⊕_, xor, ⊕-zero, ⊕-lt}
+use Rattle.algebra.specs.Field.{Ops, Laws}
+use Rattle.algebra.specs.FieldLaws.{ring, nought-mul}
+use Rattle.algebra.specs.Sum.{sum}
+use Rattle.algebra.specs.SumLaws.{sum-cong, sum-split, sum-reindex}
+use Rattle.algebra.specs.XorLaws.{left-top, right-top, both-top, xor, ⊕-zero, ⊕-lt}
+use Rattle.algebra.specs.Xor.{_⊕_}
 use Rattle.dyadic.specs.Block.{convolution}
 
 -- f on the upper half

@@ -6,7 +6,8 @@ use lib.ListN.{length, List·getD-append}
 use lib.Seq.{getD-append-add}
 use Rattle.algebra.specs.Field.{Ops}
 use Rattle.algebra.specs.Lists.{entry}
-use Rattle.algebra.specs.Tabulate.{tabulate, length-tabulate, getD-tabulate, tabulate-cong}
+use Rattle.algebra.specs.Tabulate.{tabulate}
+use Rattle.algebra.specs.TabulateLaws.{length-tabulate, getD-tabulate, tabulate-cong}
 use Rattle.dyadic.specs.Block.{blockSum, convolution, blockProduct, total, quotient, blockInverse}
 use Rattle.dyadic.specs.Convolution.{convolution-cong}
 

@@ -8,10 +8,13 @@ use native.Mathlib.Omega.{arith}
 use lib.Dec.{eqb, eqb·suc-zero}
 use lib.ListN.{length}
 use borrow.Author.Tests.{eq-eqb, ne-eqb, eqb-true, eqb-false}
-use Rattle.algebra.specs.Field.{Ops, Laws, ring, mul-nought, no-zero-divisors}
+use Rattle.algebra.specs.Field.{Ops, Laws}
+use Rattle.algebra.specs.FieldLaws.{ring, mul-nought, no-zero-divisors}
 use Rattle.algebra.specs.Lists.{entry}
-use Rattle.algebra.specs.Sum.{sum, sum-cong, sum-mul, sum-nought, sum-single, sum-swap, sum-reindex, in-sum}
-use Rattle.algebra.specs.Xor.{_⊕_, ⊕-comm, ⊕-self, ⊕-eq}
+use Rattle.algebra.specs.Sum.{sum}
+use Rattle.algebra.specs.SumLaws.{sum-cong, sum-mul, sum-nought, sum-single, sum-swap, sum-reindex, in-sum}
+use Rattle.algebra.specs.Xor.{_⊕_}
+use Rattle.algebra.specs.XorLaws.{⊕-comm, ⊕-self, ⊕-eq}
 use Rattle.dyadic.specs.Block.{matrix, convolution, total, blockInverse}
 use Rattle.dyadic.specs.Matrix.{diagonal, identity}
 use Rattle.dyadic.specs.Convolution.{square-start, square-elsewhere}

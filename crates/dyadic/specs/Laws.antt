@@ -7,9 +7,10 @@ use lib.ListN.{length, length-append}
 use lib.Pow.{pow-pos}
 use Rattle.algebra.specs.Field.{Ops, Laws}
 use Rattle.algebra.specs.Lists.{entry}
-use Rattle.algebra.specs.Sum.{sum-cong, sum-reindex, left-top, right-top, both-top}
-use Rattle.algebra.specs.Tabulate.{tabulate-cong, tabulate-append}
-use Rattle.algebra.specs.Xor.{_⊕_, xor, ⊕-comm, ⊕-lt}
+use Rattle.algebra.specs.SumLaws.{sum-cong, sum-reindex}
+use Rattle.algebra.specs.XorLaws.{left-top, right-top, both-top, xor, ⊕-comm, ⊕-lt}
+use Rattle.algebra.specs.TabulateLaws.{tabulate-cong, tabulate-append}
+use Rattle.algebra.specs.Xor.{_⊕_}
 use Rattle.dyadic.specs.Block.{matrix, blockSum, convolution, blockProduct, total, blockInverse}
 use Rattle.dyadic.specs.Matrix.{Matrix, Same, matrixSum, matrixProduct, identity}
 use Rattle.dyadic.specs.Convolution.{upper, convolution-lower, convolution-upper, convolution-comm}

@@ -5,7 +5,8 @@ use Prim.Native.Nat.{ℕ, _+_}
 use lib.ListN.{length, length-append}
 use Rattle.algebra.specs.Field.{Ops, Laws}
 use Rattle.algebra.specs.Lists.{entry}
-use Rattle.algebra.specs.Tabulate.{tabulate, length-tabulate, getD-tabulate, tabulate-cong, tabulate-getD, tabulate-append}
+use Rattle.algebra.specs.Tabulate.{tabulate}
+use Rattle.algebra.specs.TabulateLaws.{length-tabulate, getD-tabulate, tabulate-cong, tabulate-getD, tabulate-append}
 use Rattle.dyadic.specs.Block.{blockSum}
 use Rattle.dyadic.specs.Entries.{length-sum, entry-sum, entry-front, entry-back}
 

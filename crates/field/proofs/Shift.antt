@@ -9,13 +9,15 @@ use lib.Dec.{lit<, eqb, ltb}
 use borrow.Author.Tests.{eq-eqb, ne-eqb, lt-ltb, le-ltb}
 use lib.Pow.{pow-pos, pow-mono}
 use lib.Bits.{bitXor}
-use Rattle.algebra.specs.Xor.{_⊕_, ⊕-assoc, ⊕-zero, zero-⊕, ⊕-lt}
+use Rattle.algebra.specs.Xor.{_⊕_}
+use Rattle.algebra.specs.XorLaws.{⊕-assoc, ⊕-zero, zero-⊕, ⊕-lt}
 use Rattle.field.specs.Product.{product, cutBack, squares, inverse}
 use Rattle.field.specs.Horner.{timesU, horner, horner-timesU}
 use Rattle.field.specs.Ring.{Degree, timesU-lt, bit-lt, product-horner, product-lt, product-one, product-comm, product-assoc}
 use Rattle.field.specs.Inverse.{inverse-lt}
 use Rattle.field.specs.Words.{word, widest}
-use Rattle.field.specs.Gf.{Width, gf-isField}
+use Rattle.field.specs.Gf.{Width}
+use Rattle.field.specs.GfLaws.{gf-isField}
 use Rattle.field.specs.Range.{isElement}
 
 -- the range test by a shift: a number is below 2^m exactly if nothing is left of it

@@ -1,14 +1,15 @@
 -- What the product is, without an algorithm for the remainder: the only polynomial of degree below m that differs from the polynomial product
 -- by a multiple of the word.
 use mathlib.Core.Path.{_≡_, sym, ap, ap₂, _∙_, subst}
-use Prim.Native.Nat.{ℕ, zero, suc, _+_, _-_, _*_, _/_, _%_, _^_, _≤_, _<_}
+use Prim.Native.Nat.{ℕ, zero, suc, _+_, _*_, _/_, _%_, _^_, _≤_, _<_}
 use native.Mathlib.Nat.{zero-mul, one-mul, add-zero, mod-lt, mod-eq-of-lt, zero-lt-suc, pow-suc, add-suc, lt-of-lt-of-le, div-add-mod', div-eq-of-lt-le}
 use native.Mathlib.Omega.{arith}
 use lib.Arith.{digits-div, digits-mod}
 use lib.Pow.{pow-pos, pow-mono}
-use Rattle.algebra.specs.Xor.{_⊕_, xor, ⊕-self, ⊕-zero, ⊕-block, ⊕-lt, ⊕-eq}
+use Rattle.algebra.specs.Xor.{_⊕_}
+use Rattle.algebra.specs.XorLaws.{xor, ⊕-self, ⊕-zero, ⊕-block, ⊕-lt, ⊕-eq}
 use Rattle.field.specs.Product.{polyProduct, cutBack, remainder, product}
-use Rattle.algebra.specs.Bits.{bit-cases}
+use Rattle.algebra.specs.BitLaws.{bit-cases}
 use Rattle.field.specs.Horner.{timesU, timesU-zero}
 use Rattle.field.specs.Ring.{Degree, remainder-⊕, remainder-small, remainder-double, bit-lt, product-lt}
 

@@ -1,19 +1,9 @@
--- The field of each width of 01's table, with its laws.
-use mathlib.Core.Path.{_≡_}
-use mathlib.Core.Logic.{_≢_}
+-- The field of each width of 01's table.
 use Prim.Native.Nat.{ℕ, _^_, _≤_, _<_}
-use native.Mathlib.Nat.{lt-of-lt-of-le}
-use native.Mathlib.Decide.{ℕ-discrete}
-use native.Mathlib.Omega.{arith}
-use lib.Pow.{pow-pos, pow-mono}
-use lib.Dec.{lit<}
-use Rattle.algebra.specs.Field.{Ops, Laws, inv-unique}
-use Rattle.algebra.specs.Xor.{_⊕_, ⊕-comm, ⊕-assoc, ⊕-self, zero-⊕, ⊕-lt}
+use Rattle.algebra.specs.Field.{Ops}
+use Rattle.algebra.specs.Xor.{_⊕_}
 use Rattle.field.specs.Product.{product, inverse}
-use Rattle.field.specs.Ring.{Degree, product-lt, product-comm, product-assoc, product-⊕, product-one}
-use Rattle.field.specs.Inverse.{IsField, product-inverse, inverse-lt}
 use Rattle.field.specs.Words.{narrowest, widest, word}
-use Rattle.field.specs.Test.{word-isField}
 
 -- a width of the table
 pub record Width (m : ℕ) : Type 0 where
@@ -23,39 +13,3 @@ pub record Width (m : ℕ) : Type 0 where
 -- elements are the numbers below q = 2^m
 abbrev pub gf : ℕ → Ops ℕ
 gf m = record { In = λ a. a < 2 ^ m; nought = 0; one = 1; add = _⊕_; mul = product m (word m); inv = inverse m (word m) }
-
-pub gf-isField : (m : ℕ) → Width m → IsField m (word m)
-gf-isField m W = word-isField m (W .low) (W .high)
-
-pub gf-laws : (m : ℕ) → Width m → Laws (gf m)
-gf-laws m W =
-    record {
-      add-comm = ⊕-comm;
-      add-assoc = ⊕-assoc;
-      nought-add = zero-⊕;
-      add-self = ⊕-self;
-      mul-comm = product-comm m (word m) D;
-      mul-assoc = product-assoc m (word m) D;
-      mul-add = product-⊕ m (word m) D;
-      one-mul = product-one m (word m) D;
-      mul-inv = product-inverse m (word m) G;
-      one≢nought = λ e. omega arith;
-      nought? = λ a. ℕ-discrete a 0;
-      in-nought = pow-pos m;
-      in-one = lt-of-lt-of-le (lit< tt) (pow-mono (D .positive));
-      in-add = ⊕-lt m;
-      in-mul = product-lt m (word m) D;
-      in-inv = inverse-lt m (word m) G;
-    }
-  where
-    G : IsField m (word m)
-    G = gf-isField m W
-
-    D : Degree m (word m)
-    D = G .degree
-
--- 01: "every nonzero element has exactly one inverse"
-pub one-inverse : (m : ℕ) → Width m → (a : ℕ) → a < 2 ^ m → a ≢ 0
-    → (b : ℕ) × (b < 2 ^ m) × (product m (word m) a b ≡ 1) × ((c : ℕ) → c < 2 ^ m → product m (word m) a c ≡ 1 → c ≡ b)
-one-inverse m W a h ne =
-    (inverse m (word m) a, gf-laws m W .in-inv a, gf-laws m W .mul-inv a h ne, λ c l e. inv-unique (gf m) (gf-laws m W) a c h l ne e)

@@ -5,8 +5,9 @@
 use mathlib.Core.Path.{_≡_, sym, ap, ap₂, _∙_}
 use Prim.Native.Nat.{ℕ, zero, suc, _*_, _/_, _%_, _^_}
 use native.Mathlib.Nat.{zero-mul, one-mul}
-use Rattle.algebra.specs.Bits.{bit-cases, bit-⊕, ⊕-bit, ⊕-double}
-use Rattle.algebra.specs.Xor.{_⊕_, xor, ⊕-self, ⊕-div}
+use Rattle.algebra.specs.BitLaws.{bit-cases, bit-⊕, ⊕-bit, ⊕-double}
+use Rattle.algebra.specs.Xor.{_⊕_}
+use Rattle.algebra.specs.XorLaws.{xor, ⊕-self, ⊕-div}
 use Rattle.field.specs.Product.{cutBack}
 
 -- two sums of two, added

@@ -6,14 +6,15 @@
 -- a²⋯a^(2^(m−1)) is the inverse of a.
 use mathlib.Core.Path.{_≡_, refl, sym, ap, ap₂, _∙_, subst}
 use mathlib.Core.Logic.{_≢_}
-use Prim.Native.Nat.{ℕ, zero, suc, pred, _+_, _-_, _*_, _/_, _%_, _^_, _≤_, _<_}
+use Prim.Native.Nat.{ℕ, zero, suc, pred, _+_, _*_, _/_, _%_, _^_, _≤_, _<_}
 use native.Mathlib.Nat.{zero-mul, one-mul, mod-eq-of-lt, le-refl, lt-of-lt-of-le}
 use native.Mathlib.Omega.{arith}
 use lib.Pow.{pow-mono}
 use lib.Dec.{lit<}
-use Rattle.algebra.specs.Xor.{_⊕_, xor, ⊕-self, ⊕-lt}
+use Rattle.algebra.specs.Xor.{_⊕_}
+use Rattle.algebra.specs.XorLaws.{xor, ⊕-self, ⊕-lt}
 use Rattle.field.specs.Product.{product, squares, inverse}
-use Rattle.algebra.specs.Bits.{bit-cases}
+use Rattle.algebra.specs.BitLaws.{bit-cases}
 use Rattle.field.specs.Horner.{timesU, horner, horner-timesU}
 use Rattle.field.specs.Ring.{Degree, timesU-lt, horner-one, product-lt, product-comm, product-assoc, product-⊕, product-one, product-u}
 

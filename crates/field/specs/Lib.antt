@@ -6,5 +6,7 @@ pub mod Inverse
 pub mod Words
 pub mod Test
 pub mod Gf
+pub mod GfLaws
 pub mod Range
+pub mod RangeLaws
 pub mod Answers

@@ -7,9 +7,10 @@ use native.Mathlib.Numerals.{add-one}
 use native.Mathlib.Omega.{arith}
 use lib.Dec.{lit<}
 use lib.Pow.{pow-pos, pow-mono, mod-pow-add, high}
-use Rattle.algebra.specs.Xor.{_⊕_, ⊕-self, ⊕-zero, zero-⊕, ⊕-comm, ⊕-lt, ⊕-block, ⊕-shifted, ⊕-div, ⊕-mod}
+use Rattle.algebra.specs.Xor.{_⊕_}
+use Rattle.algebra.specs.XorLaws.{⊕-self, ⊕-zero, zero-⊕, ⊕-comm, ⊕-lt, ⊕-block, ⊕-shifted, ⊕-div, ⊕-mod}
 use Rattle.field.specs.Product.{polyProduct, cutBack, remainder, product}
-use Rattle.algebra.specs.Bits.{bit-cases}
+use Rattle.algebra.specs.BitLaws.{bit-cases}
 use Rattle.field.specs.Horner.{timesU, timesU-zero, horner, ⊕-horner, horner-comm, cutBack-⊕}
 
 -- a word of degree m, as a number: its bit m is the highest

@@ -15,7 +15,9 @@ use Rattle.field.specs.Horner.{timesU}
 use Rattle.field.specs.Inverse.{power, squared, trace, IsField}
 use Rattle.field.specs.Words.{narrowest, widest, words, word}
 use Rattle.algebra.specs.Xor.{_⊕_}
-use Rattle.algebra.specs.All.{all, some, both-true, all-is, some-is}
+use Rattle.algebra.specs.All.{all, some}
+use Rattle.algebra.specs.Flags.{both-true}
+use Rattle.algebra.specs.AllLaws.{all-is, some-is}
 
 -- the four facts of `IsField`, as one test
 passes : ℕ → ℕ → Bool

@@ -1,7 +1,7 @@
 -- Numbers and lines of numbers as text. Every number takes a field of the same width, "right-justified, blanks before it, no leading zeros".
 use mathlib.Core.Bool.{Bool, _&&_}
 use mathlib.Core.List.{List, [], _∷_, _++_}
-use Prim.Native.Nat.{ℕ, zero, suc, _+_, _-_, _*_, _/_, _%_}
+use Prim.Native.Nat.{ℕ, zero, suc, _+_, _-_, _*_, _/_, _%_, _≤_, _<_}
 use lib.Dec.{leb, eqb}
 use lib.ListN.{length}
 use Rattle.algebra.specs.All.{all}
@@ -83,3 +83,7 @@ numbersAt text p k = tabulate k (λ i. numberAt text (p + i * fieldWidth))
 
 unfoldable pub isLine : List ℕ → ℕ → ℕ → Bool
 isLine text p k = all k (λ i. isNumber text (p + i * fieldWidth)) && eqb (entryOf text (p + k * fieldWidth)) lineEnd
+
+-- numbers that a text may hold
+abbrev pub Small : List ℕ → Type 0
+Small numbers = (i : ℕ) → i < length numbers → entryOf numbers i ≤ greatest

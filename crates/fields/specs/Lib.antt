@@ -1,3 +1,4 @@
 pub mod Fields
 pub mod Written
+pub mod Over
 pub mod Reading

@@ -11,11 +11,14 @@ use lib.Dec.{leb, eqb, lit<}
 use lib.ListN.{length, length-append, List·getD-append}
 use lib.Seq.{getD-at, getD-append-add, ext-getD}
 use borrow.Author.Tests.{leb-true, le-leb, eqb-true, eq-eqb}
-use Rattle.algebra.specs.All.{all, all-is, all-true, both-true, both-hold}
-use Rattle.algebra.specs.Tabulate.{tabulate, length-tabulate, getD-tabulate}
+use Rattle.algebra.specs.All.{all}
+use Rattle.algebra.specs.AllLaws.{all-is, all-true}
+use Rattle.algebra.specs.Flags.{both-true, both-hold}
+use Rattle.algebra.specs.Tabulate.{tabulate}
+use Rattle.algebra.specs.TabulateLaws.{length-tabulate, getD-tabulate}
 use Rattle.algebra.specs.Lists.{entryOf}
-use Rattle.fields.specs.Fields.{fieldWidth, greatest, digitByte, leadByte, leadText, numberText, valueOf, numberAt, holdsAt, isNumber}
-use Rattle.fields.specs.Fields.{joined, lineEnd, fieldText, lineText, lineLength, numbersAt, isLine}
+use Rattle.fields.specs.Fields.{fieldWidth, greatest, digitByte, leadByte, leadText, numberText, valueOf, numberAt, holdsAt, isNumber, joined, lineEnd, fieldText, lineText, lineLength, numbersAt, isLine}
+use Rattle.fields.specs.Fields.{Small}
 
 -- ---- numbers
 
@@ -101,10 +104,6 @@ number-only text long number =
     (λ i l. ap (entryOf text) (sym (zero-add i)) ∙ number-printed text 0 number i (subst (λ (k : ℕ). i < k) long l))
 
 -- ---- lines
-
--- numbers that a text may hold
-abbrev pub Small : List ℕ → Type 0
-Small numbers = (i : ℕ) → i < length numbers → entryOf numbers i ≤ greatest
 
 -- texts of one length, one after the other
 pub length-joined : (w : ℕ) (f : ℕ → List ℕ) → ((i : ℕ) → length (f i) ≡ w) → (k : ℕ) → length (joined k f) ≡ k * w

@@ -6,13 +6,10 @@ use native.Mathlib.Nat.{add-zero, add-suc, suc-add, zero-add, le-of-eq}
 use native.Mathlib.Omega.{arith}
 use lib.ListN.{length, drop, set, drop-of-length-le}
 use lib.Seq.{sets, length-sets, sets-eq, set-comm}
+use Rattle.fields.specs.Over.{over}
 
 unfoldable pub written : List ℕ → ℕ → List ℕ → List ℕ
 written old at text = sets old at text
-
--- what a call leaves that stores the text at the front of a buffer
-unfoldable pub over : List ℕ → List ℕ → List ℕ
-over text old = text ++ drop (length text) old
 
 pub length-written : (old : List ℕ) (at : ℕ) (text : List ℕ) → length (written old at text) ≡ length old
 unfolding written

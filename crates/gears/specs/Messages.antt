@@ -9,11 +9,14 @@ use lib.Dec.{eqb, ltb, lit<}
 use lib.ListN.{length}
 use lib.Seq.{ext-getD}
 use borrow.Author.Tests.{eqb-true, leb-true, lt-ltb, le-ltb}
-use Rattle.algebra.specs.All.{all-is, all-true, both-true, both-hold}
-use Rattle.algebra.specs.Bits.{bitAt, bitAt-lt}
+use Rattle.algebra.specs.AllLaws.{all-is, all-true}
+use Rattle.algebra.specs.Flags.{both-true, both-hold}
+use Rattle.algebra.specs.Bits.{bitAt}
+use Rattle.algebra.specs.BitLaws.{bitAt-lt}
 use Rattle.algebra.specs.Lists.{entryOf}
-use Rattle.algebra.specs.Tabulate.{length-tabulate, getD-tabulate}
-use Rattle.slices.specs.Bits.{Bits, bits-anywhere}
+use Rattle.algebra.specs.TabulateLaws.{length-tabulate, getD-tabulate}
+use Rattle.slices.specs.Bits.{Bits}
+use Rattle.slices.specs.BitLaws.{bits-anywhere}
 use Rattle.gears.specs.Rows.{isRow, gearBits, rowBits, rowBit, rowMessage, gearIn, lampIn, furtherZero, isRowMessage, lampOf, lampNumber}
 
 -- ---- an allowed row fits into its bits

@@ -5,20 +5,21 @@ use Prim.Native.Nat.{ℕ, _+_, _≤_}
 use native.Mathlib.Nat.{le-of-eq}
 use lib.ListN.{length, take, replicate}
 use lib.Seq.{length-take-le}
-use Rattle.algebra.specs.Places.{count, count-le}
+use Rattle.algebra.specs.Places.{count}
+use Rattle.algebra.specs.PlaceLaws.{count-le}
 use Rattle.algebra.specs.Tabulate.{tabulate}
 use Rattle.slices.specs.Lengths.{longest}
 use Rattle.params.specs.declared.Parameters.{Parameters}
 use Rattle.params.specs.Accepted.{n-short}
 use Rattle.params.specs.Code.{Accepted}
-use Rattle.signature.specs.Inverses.{Inverted}
-use Rattle.signature.specs.Tests.{added}
+use Rattle.signature.specs.Inverses.{Inverted, added}
 use Rattle.signature.proofs.Stored.{support-is}
 use Rattle.parity.specs.Selected.{length-whole}
 use Rattle.parity.specs.Word.{whole}
 use Rattle.parity.specs.Columns.{isMessageColumn, rolesOf, dimension, messageLength}
 use Rattle.fields.specs.Fields.{joined, lineLength}
-use Rattle.fields.specs.Written.{written, over, written-more, written-over}
+use Rattle.fields.specs.Written.{written, written-more, written-over}
+use Rattle.fields.specs.Over.{over}
 use Rattle.lines.specs.Listing.{codeLine, columnLine, linesText, supportOf, listingText, listingLength}
 use Rattle.lines.specs.Lengths.{length-code, length-lines}
 

@@ -1,13 +1,21 @@
--- The length of a listing.
+-- The lengths of lists with an entry for each column, and that of a listing.
 use mathlib.Core.Path.{_≡_, ap₂, _∙_}
 use mathlib.Core.List.{List, [], _∷_}
-use Prim.Native.Nat.{ℕ, _+_, _-_, _*_}
+use Prim.Native.Nat.{ℕ, _+_, _-_, _*_, _≤_}
 use lib.ListN.{length, length-append}
 use Rattle.algebra.specs.Lists.{entryOf}
 use Rattle.params.specs.declared.Parameters.{Parameters}
 use Rattle.fields.specs.Fields.{joined, lineLength}
 use Rattle.fields.specs.Reading.{length-joined, length-line}
 use Rattle.lines.specs.Listing.{codeLine, columnLine, linesText, listingText, listingLength}
+use Rattle.slices.specs.Lengths.{longest}
+
+-- lists with an entry for each of n columns
+pub record PerColumn (n : ℕ) (h support roles : List ℕ) : Type 0 where
+  pub short : n ≤ longest
+  pub h-long : length h ≡ n
+  pub support-long : length support ≡ n
+  pub roles-long : length roles ≡ n
 
 pub length-columns : (h support roles : List ℕ) (k : ℕ) → length (joined k (columnLine h support roles)) ≡ k * lineLength 4
 unfolding columnLine

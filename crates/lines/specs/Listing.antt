@@ -1,8 +1,6 @@
 -- The listing of a code.
 use mathlib.Core.List.{List, [], _∷_, _++_}
-use mathlib.Core.Path.{_≡_}
-use Prim.Native.Nat.{ℕ, _+_, _-_, _*_, _≤_}
-use lib.ListN.{length}
+use Prim.Native.Nat.{ℕ, _+_, _-_, _*_}
 use Rattle.algebra.specs.Lists.{entryOf}
 use Rattle.algebra.specs.Tabulate.{tabulate}
 use Rattle.field.specs.Gf.{gf}
@@ -39,10 +37,3 @@ listingLength n = lineLength 6 + n * lineLength 4
 -- the length of the longest listing
 abbrev pub longestListing : ℕ
 longestListing = listingLength longest
-
--- lists with an entry for each of n columns
-pub record PerColumn (n : ℕ) (h support roles : List ℕ) : Type 0 where
-  pub short : n ≤ longest
-  pub h-long : length h ≡ n
-  pub support-long : length support ≡ n
-  pub roles-long : length roles ≡ n

@@ -12,13 +12,14 @@ ghost use Rattle.algebra.specs.Tabulate.{tabulate};
 ghost use Rattle.field.specs.Words.{widest};
 ghost use Rattle.slices.specs.Lengths.{longest};
 ghost use Rattle.params.specs.Code.{Accepted};
-ghost use Rattle.signature.specs.Inverses.{Inverted};
-ghost use Rattle.signature.specs.Tests.{added};
+ghost use Rattle.signature.specs.Inverses.{Inverted, added};
 ghost use Rattle.parity.specs.Columns.{rolesOf, messageLength};
 ghost use Rattle.parity.specs.Word.{whole};
 ghost use Rattle.fields.specs.Fields.{joined, lineLength};
-ghost use Rattle.fields.specs.Written.{written, over};
-ghost use Rattle.lines.specs.Listing.{PerColumn, columnLine, linesText, listingText, listingLength};
+ghost use Rattle.fields.specs.Written.{written};
+ghost use Rattle.fields.specs.Over.{over};
+ghost use Rattle.lines.specs.Lengths.{PerColumn};
+ghost use Rattle.lines.specs.Listing.{columnLine, linesText, listingText, listingLength};
 
 // The lengths of a listing's first line and of its others.
 pub const CODE_LINE: usize = 6 * FIELD + 1;

@@ -5,7 +5,7 @@ use lib.Dec.{leb}
 use lib.ListN.{length}
 use Rattle.refusals.specs.Rules.{Rule, _unless_, fault, unless-refused}
 use Rattle.fields.specs.Fields.{lineText}
-use Rattle.fields.specs.Written.{over}
+use Rattle.fields.specs.Over.{over}
 use Rattle.sheets.specs.Sheet.{sheetParameters, sheetH}
 use Rattle.sheets.specs.Fault.{sheetRules, sheetFault}
 use Rattle.refusals.specs.declared.Counted.{Counted}

@@ -8,11 +8,11 @@ use native.Mathlib.Omega.{arith}
 use lib.Dec.{leb}
 use lib.ListN.{length}
 use borrow.Author.Tests.{leb-true, leb-false, lt-leb, le-leb}
-use Rattle.refusals.specs.Rules.{fault-here, fault-past, fault-empty, refuse, accept}
+use Rattle.refusals.specs.RuleLaws.{fault-here, fault-past, fault-empty, refuse, accept}
 use Rattle.params.specs.Accepted.{n-short}
 use Rattle.fields.specs.Fields.{lineText}
 use Rattle.fields.specs.Reading.{length-line}
-use Rattle.fields.specs.Written.{over}
+use Rattle.fields.specs.Over.{over}
 use Rattle.sheets.specs.Sheet.{sheetParameters, sheetH}
 use Rattle.sheets.specs.Fault.{sheetFault}
 use Rattle.sheets.specs.Laws.{sheet-accepted}

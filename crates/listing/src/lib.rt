@@ -11,9 +11,8 @@ use slices::LONGEST;
 ghost use mathlib.Core.Path.{_≡_};
 ghost use mathlib.Core.List.{[], _∷_};
 ghost use Rattle.fields.specs.Fields.{lineText};
-ghost use Rattle.sheets.specs.Fault.{SheetRead};
-ghost use Rattle.listing.specs.Answers.{sheetListing, storedAnswer, storedAfter};
-ghost use Rattle.listing.specs.Answers.{listingAnswer, listingAfter, printedAnswer, printedAfter};
+ghost use Rattle.sheets.specs.Held.{SheetRead};
+ghost use Rattle.listing.specs.Answers.{sheetListing, storedAnswer, storedAfter, listingAnswer, listingAfter, printedAnswer, printedAfter};
 
 // The listing of the code on a sheet at the front of `out`, and its length.
 pub fn listing(text: &[u8], out: &mut [u8]) -> Counted

@@ -1,7 +1,8 @@
 -- Horner's rule over any field of characteristic two: sums of polynomials, and the product with y + r, by their coefficients.
 use mathlib.Core.Path.{_≡_, refl, sym, ap, ap₂, _∙_}
 use Prim.Native.Nat.{ℕ, zero, suc}
-use Rattle.algebra.specs.Field.{Ops, Laws, ring}
+use Rattle.algebra.specs.Field.{Ops, Laws}
+use Rattle.algebra.specs.FieldLaws.{ring}
 use Rattle.locator.specs.Coefficients.{horner}
 
 -- the coefficients one place up, with a new lowest one

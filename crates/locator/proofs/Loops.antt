@@ -9,10 +9,14 @@ use native.Mathlib.Numerals.{add-one}
 use native.Mathlib.Omega.{arith}
 use lib.ListN.{length, drop, set, length-set, List·getD-append, List·getD-eq-default}
 use lib.Seq.{getD-set-same, getD-set-other}
-use Rattle.algebra.specs.Field.{Laws, mul-nought, add-nought}
-use Rattle.algebra.specs.Tabulate.{tabulate, length-tabulate, getD-tabulate, filled, Filling, filling-start, filling-turn, filling-length, filling-index, filling-old}
+use Rattle.algebra.specs.Field.{Laws}
+use Rattle.algebra.specs.FieldLaws.{mul-nought, add-nought}
+use Rattle.algebra.specs.Tabulate.{tabulate}
+use Rattle.algebra.specs.TabulateLaws.{length-tabulate, getD-tabulate}
+use Rattle.algebra.specs.Filling.{filled, Filling, filling-start, filling-turn, filling-length, filling-index, filling-old}
 use Rattle.algebra.specs.Xor.{_⊕_}
-use Rattle.field.specs.Gf.{Width, gf, gf-laws}
+use Rattle.field.specs.Gf.{Width, gf}
+use Rattle.field.specs.GfLaws.{gf-laws}
 use Rattle.field.specs.Product.{product}
 use Rattle.field.specs.Words.{word}
 use Rattle.slices.specs.Lengths.{longest}

@@ -10,11 +10,12 @@ use lib.Dec.{eqb}
 use lib.Pow.{pow-pos}
 use lib.ListN.{length}
 use borrow.Author.Tests.{eq-eqb, ne-eqb}
-use Rattle.algebra.specs.Field.{mul-nought, nought-mul}
+use Rattle.algebra.specs.FieldLaws.{mul-nought, nought-mul}
 use Rattle.algebra.specs.Locator.Split.{Halves, discrepancy}
 use Rattle.algebra.specs.Locator.Nodal.{Points}
 use Rattle.algebra.specs.Locator.Pass.{Pivot, Pivot.smaller, Pivot.remaining, Raised, Reduced, Step, Step.first-pivot, Step.second-pivot, pass-start, pass-step, pass-swap}
-use Rattle.field.specs.Gf.{Width, gf, gf-laws}
+use Rattle.field.specs.Gf.{Width, gf}
+use Rattle.field.specs.GfLaws.{gf-laws}
 use Rattle.algebra.specs.Lists.{entryOf}
 use Rattle.locator.specs.Coefficients.{halvesOf, Half, Pair, Combined, Lifted, Turned, Choice, Choice.first, Choice.second, Advanced, Constant, Started, Passed, Located}
 use Rattle.locator.proofs.Loops.{constant-value}

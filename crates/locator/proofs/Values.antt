@@ -4,7 +4,8 @@ use mathlib.Core.List.{List}
 use Prim.Native.Nat.{ℕ, _<_, _^_}
 use Rattle.algebra.specs.Locator.Split.{value, discrepancy, in-discrepancy}
 use Rattle.algebra.specs.Xor.{_⊕_}
-use Rattle.field.specs.Gf.{Width, gf, gf-laws}
+use Rattle.field.specs.Gf.{Width, gf}
+use Rattle.field.specs.GfLaws.{gf-laws}
 use Rattle.locator.specs.Coefficients.{evaluate, halvesOf}
 
 module _ (m : ℕ) (even odd : List ℕ) where

@@ -8,15 +8,20 @@ use native.Mathlib.Omega.{arith}
 use borrow.Author.Tests.{not-true, eqb-true}
 use lib.ListN.{length}
 use lib.Seq.{take-all}
-use Rattle.algebra.specs.Bits.{bitAt, gf2, gf2-laws}
+use Rattle.algebra.specs.Bits.{bitAt}
+use Rattle.algebra.specs.Gf2.{gf2}
+use Rattle.algebra.specs.Gf2Laws.{gf2-laws}
 use Rattle.algebra.specs.Echelon.{dot, dot-cong, entry-solves}
 use Rattle.algebra.specs.Lists.{entryOf}
-use Rattle.algebra.specs.Places.{count, count-le, free-count, count-tests, chosen-cong, chosen-placed}
-use Rattle.algebra.specs.Tabulate.{getD-tabulate}
+use Rattle.algebra.specs.Places.{count}
+use Rattle.algebra.specs.PlaceLaws.{count-le, free-count, count-tests, chosen-cong, chosen-placed}
+use Rattle.algebra.specs.TabulateLaws.{getD-tabulate}
 use Rattle.field.specs.Gf.{Width}
-use Rattle.refusals.specs.Rules.{fault, hold}
+use Rattle.refusals.specs.Rules.{fault}
+use Rattle.refusals.specs.RuleLaws.{hold}
 use Rattle.slices.specs.Lengths.{longest}
-use Rattle.slices.specs.Bits.{Bits, allBits, bits-are}
+use Rattle.slices.specs.Bits.{Bits, allBits}
+use Rattle.slices.specs.BitLaws.{bits-are}
 use Rattle.basis.specs.Table.{rowWords, rowBit, leadAt, freeAt, placedAt, parityBit, Room, ParityBasis, Carried}
 use Rattle.params.specs.declared.Parameters.{Parameters}
 use Rattle.messages.specs.MessageRules.{messageRules}

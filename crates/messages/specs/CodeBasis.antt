@@ -6,8 +6,10 @@ use mathlib.Core.List.{List}
 use Prim.Native.Nat.{ℕ, _≤_, _<_}
 use lib.ListN.{length}
 use Rattle.algebra.specs.Lists.{entryOf}
-use Rattle.algebra.specs.Places.{count, chosen, chosen-tests, count-tests, count-le}
-use Rattle.algebra.specs.Tabulate.{tabulate, tabulate-cong}
+use Rattle.algebra.specs.Places.{count, chosen}
+use Rattle.algebra.specs.PlaceLaws.{chosen-tests, count-tests, count-le}
+use Rattle.algebra.specs.Tabulate.{tabulate}
+use Rattle.algebra.specs.TabulateLaws.{tabulate-cong}
 use Rattle.slices.specs.Bits.{Bits}
 use Rattle.basis.specs.Table.{freeAt, Form, Carried}
 use Rattle.params.specs.declared.Parameters.{Parameters}

@@ -11,8 +11,11 @@ use Rattle.algebra.specs.Lists.{entryOf}
 use Rattle.algebra.specs.Locator.Nodal.{Points, points-cong}
 use Rattle.algebra.specs.Locator.Pass.{Invariant, invariant-cong}
 use Rattle.algebra.specs.Locator.Split.{value}
-use Rattle.algebra.specs.Places.{count-tests, count}
-use Rattle.algebra.specs.Tabulate.{tabulate, tabulate-cong, length-tabulate, getD-tabulate, Filling, filling-start, filling-turn}
+use Rattle.algebra.specs.PlaceLaws.{count-tests}
+use Rattle.algebra.specs.Places.{count}
+use Rattle.algebra.specs.Tabulate.{tabulate}
+use Rattle.algebra.specs.TabulateLaws.{tabulate-cong, length-tabulate, getD-tabulate}
+use Rattle.algebra.specs.Filling.{Filling, filling-start, filling-turn}
 use Rattle.algebra.specs.Xor.{_⊕_}
 use Rattle.field.specs.Gf.{gf}
 use Rattle.slices.specs.Bits.{IsBits}
@@ -21,8 +24,7 @@ use Rattle.slices.specs.Lengths.{longest}
 use Rattle.params.specs.declared.Parameters.{Parameters}
 use Rattle.params.specs.Accepted.{accepted-pair, n-short, t-short}
 use Rattle.signature.specs.Signature.{rootAt, supportAt}
-use Rattle.signature.specs.Inverses.{Inverted}
-use Rattle.signature.specs.Tests.{added}
+use Rattle.signature.specs.Inverses.{Inverted, added}
 use Rattle.signature.proofs.Stored.{roots-are, support-is}
 use Rattle.parity.specs.Parity.{Summed, signatureSum, signature-syndrome, signature-in}
 use Rattle.parity.specs.Selected.{OnColumns}

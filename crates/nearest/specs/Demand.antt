@@ -13,23 +13,19 @@ use Prim.Native.Nat.{ℕ, _<_, _≤_}
 use native.Mathlib.Decide.{decLt}
 use native.Mathlib.Omega.{arith}
 use lib.ListN.{length}
-use Rattle.algebra.specs.All.{refuted}
+use Rattle.algebra.specs.Flags.{refuted}
 use Rattle.field.specs.Gf.{gf}
 use Rattle.slices.specs.Bits.{IsBits}
 use Rattle.params.specs.declared.Parameters.{Parameters}
 use Rattle.params.specs.Code.{Accepted}
 use Rattle.parity.specs.Selected.{Selected}
-use Rattle.parity.specs.Word.{syndromeAt, isCodeWord}
+use Rattle.parity.specs.Word.{syndromeAt}
 use Rattle.nearest.specs.Errors.{F, roots}
 use Rattle.nearest.specs.Exists.{pass-exists}
 use Rattle.nearest.specs.Found.{near-is-found}
 use Rattle.nearest.specs.Repair.{distance, isRepairable, repairedOf}
 use Rattle.nearest.specs.Search.{repaired-bits, near-is, near, repairable, repaired-near}
-
--- a code word of as many bits as there are columns
-pub record CodeWord (c : Parameters) (h cols w : List ℕ) : Type 0 where
-  pub bits : IsBits (length cols) w
-  pub code : isCodeWord c h cols w ≡ true
+use Rattle.nearest.specs.CodeWord.{CodeWord}
 
 module _ {c : Parameters} {h cols : List ℕ} (A : Accepted c h) (S : Selected (c .n) cols) {r : List ℕ} (received : IsBits (length cols) r) where
   -- no two code words are near: both are what the pass finds

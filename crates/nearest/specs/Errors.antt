@@ -11,15 +11,18 @@ use native.Mathlib.Omega.{arith}
 use lib.Dec.{eqb}
 use lib.ListN.{length}
 use borrow.Author.Tests.{eqb-true}
-use Rattle.algebra.specs.All.{all-is}
+use Rattle.algebra.specs.AllLaws.{all-is}
 use Rattle.algebra.specs.Field.{Laws}
 use Rattle.algebra.specs.Lists.{entryOf}
 use Rattle.algebra.specs.Locator.{Explains}
 use Rattle.algebra.specs.Locator.Nodal.{Points}
 use Rattle.algebra.specs.Places.{count}
-use Rattle.algebra.specs.Sum.{sum, sum-cong, sum-add}
-use Rattle.algebra.specs.Xor.{_⊕_, ⊕-self, ⊕-zero, zero-⊕}
-use Rattle.field.specs.Gf.{gf, gf-laws}
+use Rattle.algebra.specs.Sum.{sum}
+use Rattle.algebra.specs.SumLaws.{sum-cong, sum-add}
+use Rattle.algebra.specs.Xor.{_⊕_}
+use Rattle.algebra.specs.XorLaws.{⊕-self, ⊕-zero, zero-⊕}
+use Rattle.field.specs.Gf.{gf}
+use Rattle.field.specs.GfLaws.{gf-laws}
 use Rattle.slices.specs.Bits.{IsBits}
 use Rattle.params.specs.declared.Parameters.{Parameters}
 use Rattle.params.specs.Accepted.{accepted-pair}

@@ -11,7 +11,7 @@ use native.Mathlib.Omega.{arith}
 use lib.Dec.{eqb}
 use lib.ListN.{length}
 use borrow.Author.Tests.{eqb-true, eq-eqb}
-use Rattle.algebra.specs.All.{refuted}
+use Rattle.algebra.specs.Flags.{refuted}
 use Rattle.algebra.specs.Lists.{entryOf}
 use Rattle.algebra.specs.Locator.{Explains, errors-are-roots, roots-are-errors}
 use Rattle.algebra.specs.Locator.Pass.{Invariant}

@@ -1,5 +1,6 @@
 pub mod Decoding
 pub mod Demand
+pub mod CodeWord
 pub mod Errors
 pub mod Exists
 pub mod Found

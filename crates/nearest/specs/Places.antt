@@ -12,10 +12,13 @@ use native.Mathlib.Decide.{decLt, ℕ-discrete}
 use native.Mathlib.Omega.{arith}
 use lib.Dec.{eqb}
 use borrow.Author.Tests.{eqb-true, eq-eqb, ne-eqb}
-use Rattle.algebra.specs.All.{both-true, both-hold}
-use Rattle.algebra.specs.Field.{Ops, Laws, add-nought}
-use Rattle.algebra.specs.Sum.{sum, sum-cong}
-use Rattle.algebra.specs.Places.{count, found, found-passes}
+use Rattle.algebra.specs.Flags.{both-true, both-hold}
+use Rattle.algebra.specs.Field.{Ops, Laws}
+use Rattle.algebra.specs.FieldLaws.{add-nought}
+use Rattle.algebra.specs.Sum.{sum}
+use Rattle.algebra.specs.SumLaws.{sum-cong}
+use Rattle.algebra.specs.Places.{count, found}
+use Rattle.algebra.specs.PlaceLaws.{found-passes}
 
 unfoldable pub place : ℕ → (ℕ → Bool) → ℕ → ℕ
 place n p k = found n (λ j. p j && eqb (count j p) k)

@@ -8,10 +8,12 @@ use Prim.Native.Nat.{ℕ, zero, suc, _+_, _^_, _≤_}
 use lib.Dec.{leb}
 use lib.ListN.{length}
 use borrow.Author.Tests.{leb-true, le-leb, eq-eqb}
-use Rattle.algebra.specs.All.{some-true, some-is, both-true, both-hold}
-use Rattle.algebra.specs.Bits.{numberOf, numberOf-lt}
+use Rattle.algebra.specs.AllLaws.{some-true, some-is}
+use Rattle.algebra.specs.Flags.{both-true, both-hold}
+use Rattle.algebra.specs.FromBits.{numberOf, numberOf-lt}
 use Rattle.algebra.specs.Lists.{entryOf}
-use Rattle.algebra.specs.Places.{found-passes, count, found}
+use Rattle.algebra.specs.PlaceLaws.{found-passes}
+use Rattle.algebra.specs.Places.{count, found}
 use Rattle.slices.specs.Bits.{IsBits}
 use Rattle.params.specs.declared.Parameters.{Parameters}
 use Rattle.parity.specs.Columns.{wordOf}

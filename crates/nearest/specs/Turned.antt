@@ -7,11 +7,13 @@ use native.Mathlib.Omega.{arith}
 use lib.Dec.{eqb, lit<}
 use lib.ListN.{length}
 use lib.Seq.{ext-getD}
-use Rattle.algebra.specs.Bits.{gf2}
+use Rattle.algebra.specs.Gf2.{gf2}
 use Rattle.algebra.specs.Echelon.{Inside}
 use Rattle.algebra.specs.Lists.{entryOf}
-use Rattle.algebra.specs.Places.{count-tests, count}
-use Rattle.algebra.specs.Tabulate.{tabulate, length-tabulate, getD-tabulate}
+use Rattle.algebra.specs.PlaceLaws.{count-tests}
+use Rattle.algebra.specs.Places.{count}
+use Rattle.algebra.specs.Tabulate.{tabulate}
+use Rattle.algebra.specs.TabulateLaws.{length-tabulate, getD-tabulate}
 use Rattle.algebra.specs.Xor.{_⊕_}
 use Rattle.slices.specs.Bits.{IsBits}
 use Rattle.nearest.specs.Repair.{differs, distance}

@@ -9,11 +9,15 @@ use native.Mathlib.Omega.{arith}
 use lib.Dec.{leb, eqb}
 use lib.ListN.{length}
 use borrow.Author.Tests.{eqb-true}
-use Rattle.algebra.specs.All.{both-true}
-use Rattle.refusals.specs.Rules.{Rule, _unless_, fault, fault-here, fault-past, fault-none, fault-first, fault-rest, hold}
-use Rattle.field.specs.Range.{isWidth, width-is, isElement}
-use Rattle.slices.specs.Lengths.{longest, isPower, power-is}
-use Rattle.slices.specs.Elements.{allElements, elements-are}
+use Rattle.algebra.specs.Flags.{both-true}
+use Rattle.refusals.specs.Rules.{Rule, _unless_, fault}
+use Rattle.refusals.specs.RuleLaws.{fault-here, fault-past, fault-none, fault-first, fault-rest, hold}
+use Rattle.field.specs.Range.{isWidth, isElement}
+use Rattle.field.specs.RangeLaws.{width-is}
+use Rattle.slices.specs.Lengths.{longest, isPower}
+use Rattle.slices.specs.LengthLaws.{power-is}
+use Rattle.slices.specs.Elements.{allElements}
+use Rattle.slices.specs.ElementLaws.{elements-are}
 use Rattle.params.specs.declared.Parameters.{Parameters}
 use Rattle.params.specs.Accepted.{power-short}
 use Rattle.params.specs.Code.{isLength, isRootCount, shapeRules, codeRules, codeFault}

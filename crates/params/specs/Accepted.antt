@@ -10,19 +10,24 @@ use lib.Dec.{T, leb}
 use lib.ListN.{length}
 use lib.Pow.{pow-pos, pow-mono}
 use borrow.Author.Tests.{leb-true, le-leb, eqb-true, eq-eqb}
-use Rattle.algebra.specs.All.{both-true, both-hold}
+use Rattle.algebra.specs.Flags.{both-true, both-hold}
 use Rattle.algebra.specs.Lists.{entryOf}
-use Rattle.algebra.specs.Xor.{_⊕_, ⊕-lt}
-use Rattle.refusals.specs.Rules.{fault, fault-none, numbered, hold}
-use Rattle.field.specs.Gf.{gf, gf-laws}
-use Rattle.field.specs.Range.{width, width-is, element, element-is}
-use Rattle.slices.specs.Elements.{elements-are}
-use Rattle.slices.specs.Lengths.{longestLog, longest, isPower, power-is, power}
+use Rattle.algebra.specs.Xor.{_⊕_}
+use Rattle.algebra.specs.XorLaws.{⊕-lt}
+use Rattle.refusals.specs.Rules.{fault, numbered}
+use Rattle.refusals.specs.RuleLaws.{fault-none, hold}
+use Rattle.field.specs.Gf.{gf}
+use Rattle.field.specs.GfLaws.{gf-laws}
+use Rattle.field.specs.RangeLaws.{width, width-is, element, element-is}
+use Rattle.slices.specs.ElementLaws.{elements-are}
+use Rattle.slices.specs.Lengths.{longestLog, longest, isPower}
+use Rattle.slices.specs.LengthLaws.{power-is, power}
 use Rattle.signature.specs.Signature.{rootAt, supportAt, Conditions, Cauchy}
 use Rattle.signature.specs.Existence.{offset-pair}
-use Rattle.signature.specs.Tests.{signatureRules, noZero, noZero-is, linear, linear-is, distinct, distinct-is}
+use Rattle.signature.specs.Tests.{signatureRules, noZero, linear, distinct}
+use Rattle.signature.specs.TestLaws.{noZero-is, linear-is, distinct-is}
 use Rattle.params.specs.declared.Parameters.{Parameters}
-use Rattle.params.specs.Code.{isLength, isRootCount, shapeRules, codeRules, Limits, Accepted}
+use Rattle.params.specs.Code.{isLength, isRootCount, shapeRules, codeRules, Limits, Accepted, withOffset}
 
 pub power-short : (s e : ℕ) → e ≤ longestLog → s ≡ 2 ^ e → s ≤ longest
 power-short s e l v = subst (λ (x : ℕ). x ≤ longest) (sym v) (pow-mono l)
@@ -129,10 +134,6 @@ accepted-pair {c} {h} A =
     offset-pair (gf (c .m)) (gf-laws (c .m) (L .width)) (c .n) (L .e) (L .n-power) (entryOf h) h-in (A .conditions) (c .omega) (A .ω-in)
 
 -- ---- "for every offset"
-
--- the code with another offset
-abbrev pub withOffset : Parameters → ℕ → Parameters
-withOffset c ω = record { m = c .m; n = c .n; t = c .t; omega = ω }
 
 -- whatever stands in its place is accepted too
 pub offset-accepted : {c : Parameters} {h : List ℕ} (ω : ℕ) → ω < 2 ^ c .m → Accepted c h → Accepted (withOffset c ω) h

@@ -5,7 +5,8 @@ use mathlib.Core.Bool.{Bool, true}
 use mathlib.Core.List.{List, _++_}
 use Prim.Native.Nat.{ℕ}
 use Rattle.refusals.specs.Ending.{first-refuses, second-decides}
-use Rattle.refusals.specs.Rules.{Rule, fault, fault-rest, unless-refused}
+use Rattle.refusals.specs.Rules.{Rule, fault, unless-refused}
+use Rattle.refusals.specs.RuleLaws.{fault-rest}
 use Rattle.params.specs.declared.Parameters.{Parameters}
 use Rattle.params.specs.Accepted.{code-numbered, accepted, accepts}
 use Rattle.params.specs.Code.{codeFault, Accepted, codeRules}

@@ -56,3 +56,7 @@ pub record Accepted (c : Parameters) (h : List ℕ) : Type 0 where
   pub limits : Limits c h
   pub ω-in : c .omega < 2 ^ c .m
   pub conditions : Conditions (gf (c .m)) (c .n) (entryOf h)
+
+-- the code with another offset
+abbrev pub withOffset : Parameters → ℕ → Parameters
+withOffset c ω = record { m = c .m; n = c .n; t = c .t; omega = ω }

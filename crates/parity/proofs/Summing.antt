@@ -9,8 +9,10 @@ use lib.ListN.{length}
 use lib.Pow.{pow-pos}
 use Rattle.algebra.specs.Lists.{entryOf}
 use Rattle.algebra.specs.Sum.{sum}
-use Rattle.algebra.specs.Xor.{_⊕_, ⊕-lt}
-use Rattle.field.specs.Gf.{Width, gf, gf-isField}
+use Rattle.algebra.specs.Xor.{_⊕_}
+use Rattle.algebra.specs.XorLaws.{⊕-lt}
+use Rattle.field.specs.Gf.{Width, gf}
+use Rattle.field.specs.GfLaws.{gf-isField}
 use Rattle.field.specs.Ring.{bit-lt}
 use Rattle.field.specs.Words.{word as reductionWord}
 use Rattle.parity.specs.Word.{held}

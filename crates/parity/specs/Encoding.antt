@@ -13,21 +13,31 @@ use lib.Dec.{eqb}
 use lib.ListN.{length}
 use lib.Seq.{take-all, ext-getD}
 use borrow.Author.Tests.{eqb-true, eq-eqb, not-true}
-use Rattle.algebra.specs.All.{all-is, all-true, both-true, both-hold}
-use Rattle.algebra.specs.Bits.{bitAt, bitAt-lt, numberOf, numberOf-lt, numberOf-bit, gf2, gf2-laws}
+use Rattle.algebra.specs.AllLaws.{all-is, all-true}
+use Rattle.algebra.specs.Flags.{both-true, both-hold}
+use Rattle.algebra.specs.Bits.{bitAt}
+use Rattle.algebra.specs.BitLaws.{bitAt-lt}
+use Rattle.algebra.specs.FromBits.{numberOf, numberOf-lt, numberOf-bit}
+use Rattle.algebra.specs.Gf2.{gf2}
+use Rattle.algebra.specs.Gf2Laws.{gf2-laws}
 use Rattle.algebra.specs.Echelon.{dot, agree, solution}
 use Rattle.algebra.specs.Elimination.{echelon-form}
-use Rattle.algebra.specs.Sum.{sum-cong}
-use Rattle.algebra.specs.Tabulate.{tabulate, length-tabulate, getD-tabulate, tabulate-cong, tabulate-getD}
+use Rattle.algebra.specs.SumLaws.{sum-cong}
+use Rattle.algebra.specs.Tabulate.{tabulate}
+use Rattle.algebra.specs.TabulateLaws.{length-tabulate, getD-tabulate, tabulate-cong, tabulate-getD}
 use Rattle.algebra.specs.Xor.{_⊕_}
-use Rattle.field.specs.Gf.{Width, gf, gf-laws}
-use Rattle.slices.specs.Bits.{Bits, bits-anywhere, IsBits}
+use Rattle.field.specs.Gf.{Width, gf}
+use Rattle.field.specs.GfLaws.{gf-laws}
+use Rattle.slices.specs.Bits.{Bits, IsBits}
+use Rattle.slices.specs.BitLaws.{bits-anywhere}
 use Rattle.params.specs.declared.Parameters.{Parameters}
 use Rattle.signature.specs.Signature.{rootAt, supportAt}
-use Rattle.algebra.specs.Lists.{entryOf, sameList, sameList-is}
+use Rattle.algebra.specs.Lists.{entryOf, sameList}
+use Rattle.algebra.specs.ListLaws.{sameList-is}
 use Rattle.parity.specs.Word.{parityAt, held, syndromeAt, isCodeWord}
 use Rattle.parity.specs.Columns.{wordOf, isSum, isMessageColumn, dimension, messageOf, encodingOf}
-use Rattle.algebra.specs.Places.{count, found, chosen-cong, chosen-same, chosen-placed, found-passes}
+use Rattle.algebra.specs.Places.{count, found}
+use Rattle.algebra.specs.PlaceLaws.{chosen-cong, chosen-same, chosen-placed, found-passes}
 use Rattle.parity.specs.Parity.{Checks, bitRow, bit-rows}
 use Rattle.parity.specs.Systematic.{Basis, sum-is-free}
 

@@ -7,18 +7,20 @@ use Prim.Native.Nat.{ℕ, _^_, _<_}
 use native.Mathlib.Omega.{arith}
 use lib.Dec.{eqb}
 use lib.ListN.{length}
-use Rattle.algebra.specs.All.{some, all-cong}
+use Rattle.algebra.specs.All.{some}
+use Rattle.algebra.specs.AllLaws.{all-cong}
 use Rattle.algebra.specs.Bits.{bitAt}
-use Rattle.algebra.specs.Sum.{sum-cong}
-use Rattle.algebra.specs.Tabulate.{tabulate-cong}
+use Rattle.algebra.specs.SumLaws.{sum-cong}
+use Rattle.algebra.specs.TabulateLaws.{tabulate-cong}
 use Rattle.field.specs.Gf.{gf}
 use Rattle.params.specs.declared.Parameters.{Parameters}
-use Rattle.params.specs.Accepted.{withOffset, offset-accepted}
-use Rattle.params.specs.Code.{Accepted}
+use Rattle.params.specs.Code.{withOffset, Accepted}
+use Rattle.params.specs.Accepted.{offset-accepted}
 use Rattle.algebra.specs.Lists.{entryOf, sameList}
 use Rattle.parity.specs.Word.{parityAt, held, syndromeAt, isCodeWord}
 use Rattle.parity.specs.Columns.{wordOf, isSumOf, isSum, isMessageColumn, rolesOf, dimension, messageOf, encodingOf}
-use Rattle.algebra.specs.Places.{found, chosen-tests, count-tests}
+use Rattle.algebra.specs.Places.{found}
+use Rattle.algebra.specs.PlaceLaws.{chosen-tests, count-tests}
 use Rattle.parity.specs.Parity.{entry-signature}
 use Rattle.parity.specs.Selected.{Selected}
 

@@ -7,12 +7,16 @@ use native.Mathlib.Nat.{mul-zero, mul-one, mod-eq-of-lt}
 use native.Mathlib.Omega.{arith}
 use lib.ListN.{length}
 use lib.Pow.{pow-pos}
-use Rattle.algebra.specs.Bits.{bitAt, bitAt-lt, bitAt-zero, bitAt-⊕, bits-zero, gf2}
+use Rattle.algebra.specs.Bits.{bitAt}
+use Rattle.algebra.specs.BitLaws.{bitAt-lt, bitAt-zero, bitAt-⊕, bits-zero}
+use Rattle.algebra.specs.Gf2.{gf2}
 use Rattle.algebra.specs.Echelon.{Inside, dot}
 use Rattle.algebra.specs.Lists.{entryOf}
-use Rattle.algebra.specs.Sum.{sum, sum-cong, in-sum}
+use Rattle.algebra.specs.Sum.{sum}
+use Rattle.algebra.specs.SumLaws.{sum-cong, in-sum}
 use Rattle.algebra.specs.Xor.{_⊕_}
-use Rattle.field.specs.Gf.{Width, gf, gf-laws}
+use Rattle.field.specs.Gf.{Width, gf}
+use Rattle.field.specs.GfLaws.{gf-laws}
 use Rattle.slices.specs.Bits.{Bits}
 use Rattle.slices.specs.Elements.{Elements}
 use Rattle.basis.specs.Table.{Reaches}

@@ -6,8 +6,8 @@ use native.Mathlib.Omega.{arith}
 use lib.ListN.{length}
 use Rattle.algebra.specs.Lists.{entryOf}
 use Rattle.algebra.specs.Pigeonhole.{pigeonhole}
-use Rattle.algebra.specs.Poly.{Distinct}
-use Rattle.algebra.specs.Tabulate.{length-tabulate, getD-tabulate}
+use Rattle.algebra.specs.Distinct.{Distinct}
+use Rattle.algebra.specs.TabulateLaws.{length-tabulate, getD-tabulate}
 use Rattle.params.specs.declared.Parameters.{Parameters}
 use Rattle.slices.specs.Lengths.{longest}
 use Rattle.params.specs.Accepted.{n-short}

@@ -8,15 +8,25 @@ use native.Mathlib.Omega.{arith}
 use lib.Dec.{eqb, lit<}
 use lib.Pow.{pow-mono}
 use borrow.Author.Tests.{eqb-true, eq-eqb}
-use Rattle.algebra.specs.All.{some, all-is, all-true, some-is, some-true, refuted}
-use Rattle.algebra.specs.Bits.{bitAt, bitAt-lt, bitAt-⊕, bitAt-small, shifted-at, shifted-other, numberOf, numberOf-lt, numberOf-bit, gf2, gf2-laws}
+use Rattle.algebra.specs.All.{some}
+use Rattle.algebra.specs.AllLaws.{all-is, all-true, some-is, some-true}
+use Rattle.algebra.specs.Flags.{refuted}
+use Rattle.algebra.specs.Bits.{bitAt}
+use Rattle.algebra.specs.BitLaws.{bitAt-lt, bitAt-⊕, bitAt-small}
+use Rattle.algebra.specs.FromBits.{shifted-at, shifted-other, numberOf, numberOf-lt, numberOf-bit}
+use Rattle.algebra.specs.Gf2.{gf2}
+use Rattle.algebra.specs.Gf2Laws.{gf2-laws}
 use Rattle.algebra.specs.Echelon.{Echelon, Solves, Inside, last-free, last-led}
-use Rattle.algebra.specs.Sum.{sum, sum-cong, sum-nought, sum-split}
-use Rattle.algebra.specs.Xor.{_⊕_, ⊕-self, ⊕-zero, zero-⊕, ⊕-eq}
-use Rattle.field.specs.Gf.{Width, gf, gf-laws}
+use Rattle.algebra.specs.Sum.{sum}
+use Rattle.algebra.specs.SumLaws.{sum-cong, sum-nought, sum-split}
+use Rattle.algebra.specs.Xor.{_⊕_}
+use Rattle.algebra.specs.XorLaws.{⊕-self, ⊕-zero, zero-⊕, ⊕-eq}
+use Rattle.field.specs.Gf.{Width, gf}
+use Rattle.field.specs.GfLaws.{gf-laws}
 use Rattle.parity.specs.Word.{held}
 use Rattle.parity.specs.Columns.{isSumOf, isSum}
-use Rattle.algebra.specs.Places.{count, count-tests, free-count}
+use Rattle.algebra.specs.Places.{count}
+use Rattle.algebra.specs.PlaceLaws.{count-tests, free-count}
 use Rattle.parity.specs.Parity.{Checks}
 
 -- a basis of the parity rows: it is in echelon form, and has the code words for solutions

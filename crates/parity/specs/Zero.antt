@@ -7,14 +7,16 @@ use native.Mathlib.Nat.{not-suc-le-zero}
 use native.Mathlib.Omega.{arith}
 use lib.Dec.{lit<}
 use lib.ListN.{length}
-use Rattle.algebra.specs.Sum.{sum-nought}
-use Rattle.algebra.specs.Tabulate.{tabulate, length-tabulate, getD-tabulate}
-use Rattle.field.specs.Gf.{Width, gf, gf-laws}
+use Rattle.algebra.specs.SumLaws.{sum-nought}
+use Rattle.algebra.specs.Tabulate.{tabulate}
+use Rattle.algebra.specs.TabulateLaws.{length-tabulate, getD-tabulate}
+use Rattle.field.specs.Gf.{Width, gf}
+use Rattle.field.specs.GfLaws.{gf-laws}
 use Rattle.algebra.specs.Lists.{entryOf}
 use Rattle.params.specs.declared.Parameters.{Parameters}
 use Rattle.parity.specs.Word.{held, isCodeWord}
 use Rattle.parity.specs.Columns.{dimension, messageOf, encodingOf}
-use Rattle.algebra.specs.Places.{length-chosen}
+use Rattle.algebra.specs.PlaceLaws.{length-chosen}
 use Rattle.parity.specs.Encoding.{e, code-checks, same-message, encoding-only}
 use Rattle.slices.specs.Bits.{IsBits}
 

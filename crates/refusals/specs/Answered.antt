@@ -6,7 +6,8 @@ use Prim.Native.Nat.{ℕ, zero, suc}
 use native.Mathlib.Omega.{arith}
 use Rattle.refusals.specs.declared.Counted.the-variants.{Count, Refused as NotCounted}
 use Rattle.refusals.specs.declared.Outcome.the-variants.{Done, Refused}
-use Rattle.refusals.specs.Rules.{Rule, Hold, fault, fault-none, unless-refused, given}
+use Rattle.refusals.specs.Rules.{Rule, Hold, fault, unless-refused}
+use Rattle.refusals.specs.RuleLaws.{fault-none, given}
 
 -- for any kind of answer whose value is no refusal
 module _ {A : Type 0} (refused : ℕ → A) (value : A) (apart : (k : ℕ) → refused k ≢ value) where

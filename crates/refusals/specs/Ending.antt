@@ -4,7 +4,8 @@ use mathlib.Core.Logic.{_≢_}
 use mathlib.Core.List.{List, _++_}
 use Prim.Native.Nat.{ℕ}
 use lib.Dec.{T}
-use Rattle.refusals.specs.Rules.{Rule, fault, unless-refused, numbered, fault-first, fault-rest, refuse, accept}
+use Rattle.refusals.specs.Rules.{Rule, fault, unless-refused, numbered}
+use Rattle.refusals.specs.RuleLaws.{fault-first, fault-rest, refuse, accept}
 
 -- Both laws hold of the answer and of each buffer: `refused` is what a refusal makes of it, and `value` what it is otherwise.
 module _ {A : Type 0} (rules more : List Rule) (refused : ℕ → A) (value : A) where

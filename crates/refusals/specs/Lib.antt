@@ -1,3 +1,4 @@
 pub mod Rules
+pub mod RuleLaws
 pub mod Ending
 pub mod Answered

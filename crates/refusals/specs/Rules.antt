@@ -1,18 +1,11 @@
 -- How a call's refusal is found: its rules stand in one list, in the order in which they are looked for, and the first that does not hold gives
 -- the number. A call is refused by that number, or has its value.
-use mathlib.Core.Path.{_≡_, refl, sym, ap, _∙_, subst}
-use mathlib.Core.Logic.{_≢_}
+use mathlib.Core.Path.{_≡_}
 use mathlib.Core.Bool.{Bool, true, false}
-use mathlib.Core.List.{List, [], _∷_, _++_}
+use mathlib.Core.List.{List, [], _∷_}
 use Prim.Native.Nat.{ℕ, zero, suc}
-use native.Mathlib.Decide.{ℕ-discrete}
-use native.Mathlib.Omega.{arith}
-use lib.Dec.{T}
 
 infix 10 _unless_
-suc-ne-zero : (n : ℕ) → suc n ≢ 0
-suc-ne-zero n e = omega arith
-
 -- the number of 01's table that is due unless the test holds
 pub data Rule : Type 0 where
   _unless_ : ℕ → Bool → Rule
@@ -28,78 +21,13 @@ unfoldable pub unless-refused : {A : Type 0} → ℕ → (ℕ → A) → A → A
 unless-refused zero refused value = value
 unless-refused (suc n) refused value = refused (suc n)
 
--- ---- laws of lists of rules
-
-pub fault-here : {t : Bool} (n : ℕ) (rules : List Rule) → t ≡ false → fault ((n unless t) ∷ rules) ≡ n
-unfolding fault
-fault-here n rules e = ap (λ (t : Bool). fault ((n unless t) ∷ rules)) e
-
-pub fault-past : {t : Bool} {k : ℕ} (n : ℕ) (rules : List Rule) → t ≡ true → fault rules ≡ k → fault ((n unless t) ∷ rules) ≡ k
-unfolding fault
-fault-past n rules e f = ap (λ (t : Bool). fault ((n unless t) ∷ rules)) e ∙ f
-
-pub fault-empty : fault [] ≡ 0
-unfolding fault
-fault-empty = refl
-
 -- every number of the list is one of 01's, which begin at 1
 abbrev pub numbered : List Rule → Bool
 numbered [] = true
 numbered ((zero unless t) ∷ rules) = false
 numbered ((suc n unless t) ∷ rules) = numbered rules
 
+-- every rule of the list holds
 abbrev pub Hold : List Rule → Type 0
 Hold [] = Unit {0}
 Hold ((n unless t) ∷ rules) = (t ≡ true) × Hold rules
-
--- rules that hold ask for no number
-pub fault-none : (rules : List Rule) → Hold rules → fault rules ≡ 0
-fault-none [] hs = fault-empty
-fault-none ((n unless t) ∷ rules) hs = fault-past n rules (hs .0) (fault-none rules (hs .1))
-
--- no number is due only if every test holds
-pub hold : (rules : List Rule) → T (numbered rules) → fault rules ≡ 0 → Hold rules
-unfolding fault
-hold [] s e = tt
-hold ((zero unless t) ∷ rules) s e = absurd s
-hold ((suc n unless true) ∷ rules) s e = (refl, hold rules s e)
-hold ((suc n unless false) ∷ rules) s e = absurd (suc-ne-zero n e)
-
--- a list that refuses still does with more rules after it, and one that does not leaves it to those
-pub fault-first : (rules more : List Rule) → fault rules ≢ 0 → fault (rules ++ more) ≡ fault rules
-unfolding fault
-fault-first [] more ne = absurd (ne refl)
-fault-first ((n unless true) ∷ rules) more ne = fault-first rules more ne
-fault-first ((n unless false) ∷ rules) more ne = refl
-
--- rules that hold, with more after them, hold without
-pub first-holds : (rules more : List Rule) → fault (rules ++ more) ≡ 0 → fault rules ≡ 0
-first-holds rules more e = decided (ℕ-discrete (fault rules) 0)
-  where
-    decided : Dec (fault rules ≡ 0) → fault rules ≡ 0
-    decided (yes z) = z
-    decided (no ne) = absurd (ne (sym (fault-first rules more ne) ∙ e))
-
-pub fault-rest : (rules more : List Rule) → T (numbered rules) → fault rules ≡ 0 → fault (rules ++ more) ≡ fault more
-unfolding fault
-fault-rest [] more s e = refl
-fault-rest ((zero unless t) ∷ rules) more s e = absurd s
-fault-rest ((suc n unless true) ∷ rules) more s e = fault-rest rules more s e
-fault-rest ((suc n unless false) ∷ rules) more s e = absurd (suc-ne-zero n e)
-
--- a call that found the number k and goes by it answers as it should
-pub refuse : {A : Type 0} {k n : ℕ} (refused : ℕ → A) (value : A) → k ≡ n → k ≢ 0 → refused k ≡ unless-refused n refused value
-unfolding unless-refused
-refuse {k = k} refused value e ne = subst (λ (n : ℕ). refused k ≡ unless-refused n refused value) e (due k ne)
-  where
-    due : (k : ℕ) → k ≢ 0 → refused k ≡ unless-refused k refused value
-    due zero ne = absurd (ne refl)
-    due (suc k) ne = refl
-
-pub accept : {A : Type 0} {k n : ℕ} (refused : ℕ → A) (value : A) → k ≡ n → k ≡ 0 → value ≡ unless-refused n refused value
-unfolding unless-refused
-accept refused value e z = ap (λ (n : ℕ). unless-refused n refused value) (sym z ∙ e)
-
--- where no number is due there is the value
-pub given : {A : Type 0} {n : ℕ} (refused : ℕ → A) (value : A) → n ≡ 0 → unless-refused n refused value ≡ value
-given refused value z = sym (accept {k = 0} refused value (sym z) refl)

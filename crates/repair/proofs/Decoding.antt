@@ -6,9 +6,11 @@ use mathlib.Core.List.{List, [], _∷_}
 use Prim.Native.Nat.{ℕ, zero, suc, _<_, _≤_}
 use native.Mathlib.Omega.{arith}
 use lib.ListN.{length}
-use Rattle.algebra.specs.Places.{count-le}
-use Rattle.refusals.specs.Rules.{_unless_, fault, unless-refused, fault-none, fault-here, fault-past, refuse, accept}
-use Rattle.slices.specs.Bits.{IsBits, allBits, bits-are}
+use Rattle.algebra.specs.PlaceLaws.{count-le}
+use Rattle.refusals.specs.Rules.{_unless_, fault, unless-refused}
+use Rattle.refusals.specs.RuleLaws.{fault-none, fault-here, fault-past, refuse, accept}
+use Rattle.slices.specs.Bits.{IsBits, allBits}
+use Rattle.slices.specs.BitLaws.{bits-are}
 use Rattle.params.specs.declared.Parameters.{Parameters}
 use Rattle.parity.specs.Selected.{OnColumns}
 use Rattle.parity.specs.Word.{isCodeWord}

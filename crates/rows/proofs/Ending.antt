@@ -10,7 +10,8 @@ use lib.Dec.{leb}
 use lib.ListN.{length, take, replicate}
 use lib.Seq.{length-take-le}
 use Rattle.refusals.specs.Ending.{Ended, ended-refused, ended-done}
-use Rattle.refusals.specs.Rules.{_unless_, fault, unless-refused, fault-here, fault-past, fault-none, fault-first, fault-rest, refuse, accept}
+use Rattle.refusals.specs.Rules.{_unless_, fault, unless-refused}
+use Rattle.refusals.specs.RuleLaws.{fault-here, fault-past, fault-none, fault-first, fault-rest, refuse, accept}
 use Rattle.slices.specs.Lengths.{longest}
 use Rattle.params.specs.declared.Parameters.{Parameters}
 use Rattle.basis.specs.Table.{Carried}

@@ -9,12 +9,15 @@ use native.Mathlib.Omega.{arith}
 use lib.Dec.{eqb, lit<}
 use lib.ListN.{length}
 use borrow.Author.Tests.{eq-eqb, eqb-true, leb-true, le-leb}
-use Rattle.algebra.specs.All.{both-true, both-hold}
+use Rattle.algebra.specs.Flags.{both-true, both-hold}
 use Rattle.algebra.specs.Lists.{entryOf}
-use Rattle.algebra.specs.Places.{chosen, length-chosen}
-use Rattle.refusals.specs.Rules.{fault, fault-none, first-holds, hold, unless-refused, given}
+use Rattle.algebra.specs.Places.{chosen}
+use Rattle.algebra.specs.PlaceLaws.{length-chosen}
+use Rattle.refusals.specs.Rules.{fault, unless-refused}
+use Rattle.refusals.specs.RuleLaws.{fault-none, first-holds, hold, given}
 use Rattle.refusals.specs.declared.Outcome.the-variants.{Done, Refused}
-use Rattle.slices.specs.Bits.{Bits, allBits, IsBits, received-bits, all-bits}
+use Rattle.slices.specs.Bits.{Bits, allBits, IsBits}
+use Rattle.slices.specs.BitLaws.{received-bits, all-bits}
 use Rattle.params.specs.declared.Parameters.{Parameters}
 use Rattle.params.specs.Calls.{code-leaves}
 use Rattle.params.specs.Accepted.{accepted}
@@ -23,7 +26,8 @@ use Rattle.parity.specs.Columns.{isMessageColumn, dimension, messageOf, encodin
 use Rattle.parity.specs.Encoding.{encoding-carries, encoding-only}
 use Rattle.parity.specs.Selected.{Selected, length-whole, whole-selected}
 use Rattle.parity.specs.Word.{whole}
-use Rattle.nearest.specs.Demand.{CodeWord, near-unique, repaired-code-word, repaired-within}
+use Rattle.nearest.specs.CodeWord.{CodeWord}
+use Rattle.nearest.specs.Demand.{near-unique, repaired-code-word, repaired-within}
 use Rattle.nearest.specs.Repair.{distance, isRepairable, repairedOf}
 use Rattle.nearest.specs.Search.{distance-self, near as near-word, repairable as near-repairable}
 use Rattle.repair.specs.Answers.{wordRules, turnedCount}

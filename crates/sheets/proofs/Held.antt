@@ -6,15 +6,16 @@ use Prim.Native.Nat.{ℕ, _*_, _+_, _≤_}
 use lib.Dec.{lit<}
 use lib.ListN.{length, take, drop}
 use lib.Seq.{take-at, length-take-le}
-use Rattle.algebra.specs.Tabulate.{length-tabulate}
-use Rattle.refusals.specs.Rules.{fault-past}
+use Rattle.algebra.specs.TabulateLaws.{length-tabulate}
+use Rattle.refusals.specs.RuleLaws.{fault-past}
 use Rattle.params.specs.declared.Parameters.{Parameters}
 use Rattle.params.specs.Code.{codeFault, Accepted}
 use Rattle.signature.specs.Inverses.{Inverted}
 use Rattle.fields.specs.Fields.{fieldWidth, greatest, numberAt, numbersAt}
 use Rattle.sheets.specs.Sheet.{second, sheetParameters, sheetN, sheetH, isSheet}
 use Rattle.sheets.specs.Reading.{head-small}
-use Rattle.sheets.specs.Fault.{sheetRules, sheetFault, SheetRead}
+use Rattle.sheets.specs.Fault.{sheetRules, sheetFault}
+use Rattle.sheets.specs.Held.{SheetRead}
 use Rattle.sheets.specs.Laws.{sheet-accepted}
 
 pub n-small : (text : List ℕ) {n : ℕ} → isSheet text ≡ true → n ≡ sheetN text → n ≤ greatest

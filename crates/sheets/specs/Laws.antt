@@ -4,7 +4,8 @@ use mathlib.Core.Bool.{true}
 use mathlib.Core.List.{List}
 use Prim.Native.Nat.{ℕ}
 use lib.Dec.{T}
-use Rattle.refusals.specs.Rules.{fault-past, numbered, hold}
+use Rattle.refusals.specs.RuleLaws.{fault-past, hold}
+use Rattle.refusals.specs.Rules.{numbered}
 use Rattle.params.specs.Accepted.{accepted, code-numbered}
 use Rattle.params.specs.Code.{Accepted}
 use Rattle.sheets.specs.Sheet.{sheetParameters, sheetH, isSheet}

@@ -1,4 +1,5 @@
 pub mod Sheet
 pub mod Fault
+pub mod Held
 pub mod Reading
 pub mod Laws

@@ -10,12 +10,12 @@ use lib.Dec.{eqb, lit<}
 use lib.ListN.{length, length-append, List·getD-append}
 use lib.Seq.{getD-append-add, ext-getD}
 use borrow.Author.Tests.{eqb-true, eq-eqb}
-use Rattle.algebra.specs.All.{both-true, both-hold}
+use Rattle.algebra.specs.Flags.{both-true, both-hold}
 use Rattle.algebra.specs.Tabulate.{tabulate}
 use Rattle.algebra.specs.Lists.{entryOf}
 use Rattle.params.specs.declared.Parameters.{Parameters}
-use Rattle.fields.specs.Fields.{fieldWidth, greatest, numberAt, lineText, lineLength, numbersAt, isLine}
-use Rattle.fields.specs.Reading.{Small, length-line, printed-numbers, printed-is-line, printed-line, length-numbers, line-small, line-printed}
+use Rattle.fields.specs.Fields.{fieldWidth, greatest, numberAt, lineText, lineLength, numbersAt, isLine, Small}
+use Rattle.fields.specs.Reading.{length-line, printed-numbers, printed-is-line, printed-line, length-numbers, line-small, line-printed}
 use Rattle.sheets.specs.Sheet.{numbersOf, sheetText, second, sheetParameters, sheetN, sheetH, isSheet, longestSheet}
 
 -- a text that is a sheet is the sheet of the numbers that are read from it

@@ -11,7 +11,8 @@ ghost use lib.ListN.{length, take};
 ghost use Rattle.slices.specs.Lengths.{longest};
 ghost use Rattle.fields.specs.Fields.{greatest};
 ghost use Rattle.sheets.specs.Sheet.{second, sheetParameters, sheetN, sheetH, isSheet};
-ghost use Rattle.sheets.specs.Fault.{sheetFault, SheetRead};
+ghost use Rattle.sheets.specs.Fault.{sheetFault};
+ghost use Rattle.sheets.specs.Held.{SheetRead};
 
 // Where line two of a sheet begins.
 const SECOND: usize = 4 * FIELD + 1;

@@ -7,13 +7,16 @@ use Prim.Native.Nat.{ℕ, _<_}
 use native.Mathlib.Omega.{arith}
 use lib.Dec.{eqb}
 use lib.ListN.{length}
-use Rattle.algebra.specs.All.{all-cong}
-use Rattle.algebra.specs.Xor.{_⊕_, xor, ⊕-eq}
-use Rattle.field.specs.Gf.{gf, gf-laws}
+use Rattle.algebra.specs.AllLaws.{all-cong}
+use Rattle.algebra.specs.Xor.{_⊕_}
+use Rattle.algebra.specs.XorLaws.{xor, ⊕-eq}
+use Rattle.field.specs.Gf.{gf}
+use Rattle.field.specs.GfLaws.{gf-laws}
 use Rattle.slices.specs.Lengths.{isPower}
 use Rattle.signature.specs.Existence.{inv-injective}
 use Rattle.signature.specs.Inverses.{Entries, Inverted}
-use Rattle.signature.specs.Tests.{inverseAt, noZero, noZero-is, pairKept, affine, linear, linear-is, EqualToFirst}
+use Rattle.signature.specs.Tests.{inverseAt, noZero, pairKept, affine, linear}
+use Rattle.signature.specs.TestLaws.{noZero-is, linear-is, EqualToFirst}
 use Rattle.algebra.specs.Lists.{entryOf}
 use Rattle.signature.proofs.Scan.{index-below}
 

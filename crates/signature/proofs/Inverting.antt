@@ -10,10 +10,12 @@ use lib.ListN.{length, set, length-set}
 use lib.Seq.{getD-set-same, getD-set-other}
 use Rattle.algebra.specs.Field.{Laws}
 use Rattle.algebra.specs.Product.{prod, Units, in-prod, factor-inverse, rest-inverse}
-use Rattle.algebra.specs.Tabulate.{filled, filled-start, filled-turn, length-filled}
-use Rattle.field.specs.Gf.{Width, gf, gf-laws}
+use Rattle.algebra.specs.Filling.{filled, filled-start, filled-turn, length-filled}
+use Rattle.field.specs.Gf.{Width, gf}
+use Rattle.field.specs.GfLaws.{gf-laws}
 use Rattle.slices.specs.Elements.{Elements}
-use Rattle.signature.specs.Tests.{inverseAt, noZero, noZero-is}
+use Rattle.signature.specs.Tests.{inverseAt, noZero}
+use Rattle.signature.specs.TestLaws.{noZero-is}
 use Rattle.signature.specs.Inverses.{Inverted, before}
 use Rattle.algebra.specs.Lists.{entryOf}
 

@@ -6,10 +6,15 @@ use Prim.Native.Nat.{ℕ, _+_, _<_}
 use native.Mathlib.Numerals.{add-one}
 use lib.ListN.{length}
 use borrow.Author.Tests.{eq-eqb, ne-eqb}
-use Rattle.algebra.specs.All.{all, all-false, refuted}
-use Rattle.algebra.specs.Xor.{_⊕_, xor, ⊕-lt}
-use Rattle.slices.specs.Lengths.{isPower, power-is}
-use Rattle.signature.specs.Tests.{pairKept, affine, distinct, distinct-is, EqualToFirst}
+use Rattle.algebra.specs.All.{all}
+use Rattle.algebra.specs.AllLaws.{all-false}
+use Rattle.algebra.specs.Flags.{refuted}
+use Rattle.algebra.specs.Xor.{_⊕_}
+use Rattle.algebra.specs.XorLaws.{xor, ⊕-lt}
+use Rattle.slices.specs.Lengths.{isPower}
+use Rattle.slices.specs.LengthLaws.{power-is}
+use Rattle.signature.specs.Tests.{pairKept, affine, distinct}
+use Rattle.signature.specs.TestLaws.{distinct-is, EqualToFirst}
 use Rattle.algebra.specs.Lists.{entryOf}
 
 -- a loop that tests p at each index

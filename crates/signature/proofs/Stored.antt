@@ -5,12 +5,14 @@ use Prim.Native.Nat.{ℕ, _≤_}
 use native.Mathlib.Omega.{arith}
 use lib.ListN.{length}
 use Rattle.algebra.specs.Lists.{entryOf}
-use Rattle.algebra.specs.Tabulate.{tabulate, tabulate-cong}
-use Rattle.algebra.specs.Xor.{_⊕_, ⊕-assoc}
+use Rattle.algebra.specs.Tabulate.{tabulate}
+use Rattle.algebra.specs.TabulateLaws.{tabulate-cong}
+use Rattle.algebra.specs.Xor.{_⊕_}
+use Rattle.algebra.specs.XorLaws.{⊕-assoc}
 use Rattle.field.specs.Gf.{gf}
 use Rattle.signature.specs.Signature.{rootAt, supportAt}
-use Rattle.signature.specs.Tests.{added, inverseAt}
-use Rattle.signature.specs.Inverses.{Inverted}
+use Rattle.signature.specs.Inverses.{added, Inverted}
+use Rattle.signature.specs.Tests.{inverseAt}
 
 module _ {m : ℕ} {h inverses : List ℕ} (I : Inverted m h inverses) (k : ℕ) (short : k ≤ length h) (ω : ℕ) where
   pub roots-are : tabulate k (added inverses ω) ≡ tabulate k (rootAt (gf m) ω (entryOf h))

@@ -6,9 +6,11 @@ use mathlib.Core.Path.{_≡_, sym, ap, ap₂, _∙_, subst}
 use mathlib.Core.Logic.{_≢_, _↔_}
 use Prim.Native.Nat.{ℕ, _^_, _<_}
 use native.Mathlib.Omega.{arith}
-use Rattle.algebra.specs.Field.{Ops, Laws, ring, add-eq, inv-unique, inv≢nought}
-use Rattle.algebra.specs.Poly.{Distinct}
-use Rattle.algebra.specs.Xor.{_⊕_, ⊕-lt, ⊕-zero, zero-⊕}
+use Rattle.algebra.specs.Field.{Ops, Laws}
+use Rattle.algebra.specs.FieldLaws.{ring, add-eq, inv-unique, inv≢nought}
+use Rattle.algebra.specs.Distinct.{Distinct}
+use Rattle.algebra.specs.Xor.{_⊕_}
+use Rattle.algebra.specs.XorLaws.{⊕-lt, ⊕-zero, zero-⊕}
 use Rattle.signature.specs.Signature.{rootAt, supportAt, Conditions, Cauchy, HasCauchy}
 
 module _ {A : Type 0} (K : Ops A) (F : Laws K) where

@@ -10,6 +10,7 @@ use Rattle.field.specs.Gf.{Width, gf}
 use Rattle.slices.specs.Elements.{Elements}
 use Rattle.slices.specs.Lengths.{isPower}
 use Rattle.signature.specs.Tests.{inverseAt}
+use Rattle.algebra.specs.Xor.{_⊕_}
 
 -- a signature of elements, a power of two of them, and a list with room for as many
 pub record Entries (m : ℕ) (h room : List ℕ) : Type 0 where
@@ -26,3 +27,7 @@ pub record Inverted (m : ℕ) (h inverses : List ℕ) : Type 0 where
 -- the product of the entries before place i
 abbrev pub before : ℕ → List ℕ → ℕ → ℕ
 before m h i = prod (gf m) i (entryOf h)
+
+-- the entries with x added to each
+abbrev pub added : List ℕ → ℕ → ℕ → ℕ
+added a x i = entryOf a i ⊕ x

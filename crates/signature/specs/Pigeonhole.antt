@@ -4,7 +4,7 @@ use Prim.Native.Nat.{ℕ, _-_, _*_, _^_, _≤_, _<_}
 use native.Mathlib.Decide.{decLt}
 use native.Mathlib.Omega.{arith}
 use Rattle.algebra.specs.Pigeonhole.{pigeonhole}
-use Rattle.algebra.specs.Poly.{Distinct}
+use Rattle.algebra.specs.Distinct.{Distinct}
 use Rattle.field.specs.Gf.{gf}
 use Rattle.signature.specs.Signature.{Cauchy}
 

@@ -8,7 +8,7 @@ use mathlib.Core.Path.{_≡_}
 use mathlib.Core.Logic.{_≢_}
 use Prim.Native.Nat.{ℕ, _<_}
 use Rattle.algebra.specs.Field.{Ops}
-use Rattle.algebra.specs.Poly.{Distinct}
+use Rattle.algebra.specs.Distinct.{Distinct}
 use Rattle.algebra.specs.Xor.{_⊕_}
 
 -- 01: "z_i = 1/h_i + ω"

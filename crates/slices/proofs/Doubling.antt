@@ -8,8 +8,10 @@ use native.Mathlib.Omega.{arith}
 use lib.Dec.{eqb}
 use lib.Pow.{pow-mono}
 use borrow.Author.Tests.{eq-eqb, ne-eqb}
-use Rattle.algebra.specs.All.{refuted, below-suc}
-use Rattle.slices.specs.Lengths.{longestLog, longest, isPower, power, power-is}
+use Rattle.algebra.specs.Flags.{refuted}
+use Rattle.algebra.specs.AllLaws.{below-suc}
+use Rattle.slices.specs.Lengths.{longestLog, longest, isPower}
+use Rattle.slices.specs.LengthLaws.{power, power-is}
 
 pub record Doubling (s p : ℕ) : Type 0 where
   pub exponent : ℕ

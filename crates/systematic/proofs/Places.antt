@@ -11,14 +11,20 @@ use native.Mathlib.Omega.{arith}
 use lib.ListN.{length, drop, set, length-append, length-drop, length-set, drop-of-length-le}
 use lib.Seq.{set-at, drop-cons, getD-set-same, getD-set-other}
 use borrow.Author.Tests.{eqb-true, eq-eqb, ne-eqb}
-use Rattle.algebra.specs.Bits.{bitAt-lt, gf2, gf2-laws}
+use Rattle.algebra.specs.BitLaws.{bitAt-lt}
+use Rattle.algebra.specs.Gf2.{gf2}
+use Rattle.algebra.specs.Gf2Laws.{gf2-laws}
 use Rattle.algebra.specs.Echelon.{rest, rest-cong}
 use Rattle.algebra.specs.Lists.{entryOf}
-use Rattle.algebra.specs.Places.{count, chosen, length-chosen}
-use Rattle.algebra.specs.Sum.{sum, in-sum}
-use Rattle.algebra.specs.Tabulate.{Filling, filling-start, filling-turn, length-tabulate, getD-tabulate}
+use Rattle.algebra.specs.Places.{count, chosen}
+use Rattle.algebra.specs.PlaceLaws.{length-chosen}
+use Rattle.algebra.specs.Sum.{sum}
+use Rattle.algebra.specs.SumLaws.{in-sum}
+use Rattle.algebra.specs.Filling.{Filling, filling-start, filling-turn}
+use Rattle.algebra.specs.TabulateLaws.{length-tabulate, getD-tabulate}
 use Rattle.algebra.specs.Xor.{_⊕_}
-use Rattle.slices.specs.Bits.{Bits, bits-anywhere}
+use Rattle.slices.specs.Bits.{Bits}
+use Rattle.slices.specs.BitLaws.{bits-anywhere}
 use Rattle.basis.specs.Packed.{packedBit}
 use Rattle.basis.specs.Table.{rowBit, leadAt, freeAt, Form, Completed, placedAt}
 

@@ -5,7 +5,7 @@ ghost use mathlib.Core.Path.{_≡_};
 ghost use mathlib.Core.Bool.{cond};
 ghost use Prim.Native.Nat.{_<_, _≤_};
 ghost use lib.ListN.{length};
-ghost use Rattle.algebra.specs.Bits.{gf2};
+ghost use Rattle.algebra.specs.Gf2.{gf2};
 ghost use Rattle.algebra.specs.Echelon.{rest};
 ghost use Rattle.algebra.specs.Lists.{entryOf};
 ghost use Rattle.algebra.specs.Places.{chosen};

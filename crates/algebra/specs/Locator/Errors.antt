@@ -9,7 +9,8 @@ use Prim.Native.Nat.{ℕ, zero, suc, _<_, _/_, _≤_}
 use native.Mathlib.Nat.{not-suc-le-zero, le-suc}
 use native.Mathlib.Decide.{ℕ-discrete}
 use native.Mathlib.Omega.{arith}
-use Rattle.algebra.specs.Field.{Ops, Laws, ring, lin, add-eq, nought-mul, no-zero-divisors}
+use Rattle.algebra.specs.Field.{Ops, Laws}
+use Rattle.algebra.specs.FieldLaws.{ring, lin, add-eq, nought-mul, no-zero-divisors}
 use Rattle.algebra.specs.Sum.{sum}
 use Rattle.algebra.specs.Poly.{poly-weaken, poly-in, poly-const, poly-add, poly-scale, poly-shift, Poly.vanish}
 use Rattle.algebra.specs.Locator.Split.{Halves, Bounded, value, discrepancy}

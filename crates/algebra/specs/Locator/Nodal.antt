@@ -5,8 +5,9 @@ use Prim.Native.Nat.{ℕ, zero, suc, _<_, _≤_}
 use native.Mathlib.Nat.{not-suc-le-zero, lt-of-lt-of-le, lt-suc-self, le-suc, le-step}
 use native.Mathlib.Decide.{ℕ-discrete}
 use native.Mathlib.Omega.{arith}
-use Rattle.algebra.specs.Field.{Ops, Laws, nought-mul, mul-nought, add-eq, mul-cancel, square-injective}
-use Rattle.algebra.specs.Poly.{Distinct}
+use Rattle.algebra.specs.Field.{Ops, Laws}
+use Rattle.algebra.specs.FieldLaws.{nought-mul, mul-nought, add-eq, mul-cancel, square-injective}
+use Rattle.algebra.specs.Distinct.{Distinct}
 
 -- n points: elements of the field, and different
 pub record Points {A : Type 0} (K : Ops A) (n : ℕ) (r : ℕ → A) : Type 0 where

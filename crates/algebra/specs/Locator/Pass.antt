@@ -13,7 +13,8 @@ use native.Mathlib.Nat.{not-suc-le-zero, le-of-lt}
 use native.Mathlib.Numerals.{add-one}
 use native.Mathlib.Omega.{arith}
 use borrow.Author.Count.{below-more}
-use Rattle.algebra.specs.Field.{Ops, Laws, ring, mul-nought, nought-mul, mul-cancel, no-zero-divisors, square-injective}
+use Rattle.algebra.specs.Field.{Ops, Laws}
+use Rattle.algebra.specs.FieldLaws.{ring, mul-nought, nought-mul, mul-cancel, no-zero-divisors, square-injective}
 use Rattle.algebra.specs.Poly.{poly-weaken, poly-cong, poly-const, poly-add, poly-scale, poly-linear, Poly.vanish}
 use Rattle.algebra.specs.Locator.Split.{Halves, Bounded, discrepancy, in-discrepancy, det, det-comm, orthogonal}
 use Rattle.algebra.specs.Locator.Nodal.{Points, fewer-points, square-points, nodal, nodal-cong, in-nodal, nodal-root}

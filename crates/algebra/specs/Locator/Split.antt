@@ -6,7 +6,8 @@
 use mathlib.Core.Path.{_≡_, sym, ap, _∙_}
 use Prim.Native.Nat.{ℕ, suc, _+_ as _+ℕ_, _*_, _/_, _≤_}
 use native.Mathlib.Omega.{arith}
-use Rattle.algebra.specs.Field.{Ops, Laws, ring, lin}
+use Rattle.algebra.specs.Field.{Ops, Laws}
+use Rattle.algebra.specs.FieldLaws.{ring, lin}
 use Rattle.algebra.specs.Poly.{Poly, poly-cong, poly-weaken, poly-in, poly-add, poly-mul}
 
 pub record Halves (A : Type 0) : Type 0 where

@@ -1,8 +1,8 @@
 -- `block_fault` meets its contract: the number for the sizes stands, and where there is none the elements are looked at.
 use mathlib.Core.Path.{sym, _∙_}
 use borrow.Author.Needs.{needs}
-use Rattle.algebra.specs.All.{failed, passed}
-use Rattle.refusals.specs.Rules.{fault-here, fault-none}
+use Rattle.algebra.specs.Flags.{failed, passed}
+use Rattle.refusals.specs.RuleLaws.{fault-here, fault-none}
 use Rattle.blocks.specs.Answers.{blockRules, blockFault}
 use Rattle.blocks.proofs.Checked.{size-refuses, size-passes, width-checked}
 use Rattle.blocks.proofs.block_fault.Statement.{statement}

@@ -6,7 +6,7 @@ use native.Mathlib.Omega.{arith}
 use lib.ListN.{length}
 use borrow.Author.Needs.{needs}
 use borrow.Author.Tests.{eq-eqb, ne-eqb}
-use Rattle.refusals.specs.Rules.{fault-here, fault-past, fault-empty, fault-rest, refuse, accept}
+use Rattle.refusals.specs.RuleLaws.{fault-here, fault-past, fault-empty, fault-rest, refuse, accept}
 use Rattle.refusals.specs.Ending.{first-refuses}
 use Rattle.refusals.specs.declared.Outcome.the-variants.{Refused}
 use Rattle.field.specs.Gf.{gf}

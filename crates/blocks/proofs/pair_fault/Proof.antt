@@ -2,8 +2,8 @@
 use mathlib.Core.Path.{sym, _∙_}
 use borrow.Author.Needs.{needs}
 use borrow.Author.Tests.{eq-eqb, ne-eqb}
-use Rattle.algebra.specs.All.{failed, passed}
-use Rattle.refusals.specs.Rules.{fault-here, fault-past, fault-none}
+use Rattle.algebra.specs.Flags.{failed, passed}
+use Rattle.refusals.specs.RuleLaws.{fault-here, fault-past, fault-none}
 use Rattle.blocks.specs.Answers.{pairRules, pairFault}
 use Rattle.blocks.proofs.Checked.{size-refuses, size-passes, width-checked}
 use Rattle.blocks.proofs.pair_fault.Statement.{statement}

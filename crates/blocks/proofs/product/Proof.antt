@@ -1,7 +1,7 @@
 -- `product` meets its contract: its rules give what the inner product asks, and what that adds to the cleared buffer is the product.
 use mathlib.Core.Path.{sym, _∙_}
 use borrow.Author.Needs.{needs}
-use Rattle.refusals.specs.Rules.{refuse, accept}
+use Rattle.refusals.specs.RuleLaws.{refuse, accept}
 use Rattle.refusals.specs.declared.Outcome.the-variants.{Refused}
 use Rattle.blocks.specs.Answers.{productAnswer, productAfter}
 use Rattle.blocks.proofs.Checked.{pair-checked}

@@ -2,8 +2,8 @@
 use mathlib.Core.Path.{sym}
 use borrow.Author.Needs.{needs}
 use borrow.Author.Tests.{eq-eqb, ne-eqb}
-use Rattle.algebra.specs.All.{failed, passed}
-use Rattle.refusals.specs.Rules.{fault-here, fault-past, fault-none}
+use Rattle.algebra.specs.Flags.{failed, passed}
+use Rattle.refusals.specs.RuleLaws.{fault-here, fault-past, fault-none}
 use Rattle.blocks.specs.Answers.{sizeRules, sizeFault}
 use Rattle.blocks.proofs.size_fault.Statement.{statement}
 use Rattle.blocks.proofs.size_fault.Tie as tie

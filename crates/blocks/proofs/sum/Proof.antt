@@ -1,7 +1,7 @@
 -- `sum` meets its contract: its rules give what the inner sum asks.
 use mathlib.Core.Path.{sym, _∙_}
 use borrow.Author.Needs.{needs}
-use Rattle.refusals.specs.Rules.{refuse, accept}
+use Rattle.refusals.specs.RuleLaws.{refuse, accept}
 use Rattle.refusals.specs.declared.Outcome.the-variants.{Refused}
 use Rattle.blocks.specs.Answers.{sumAnswer, sumAfter}
 use Rattle.blocks.proofs.Checked.{pair-checked}

@@ -5,9 +5,9 @@ use native.Mathlib.Omega.{arith}
 use lib.ListN.{length}
 use borrow.Author.Needs.{needs}
 use Rattle.algebra.specs.Tabulate.{tabulate}
-use Rattle.refusals.specs.Rules.{refuse, accept}
+use Rattle.refusals.specs.RuleLaws.{refuse, accept}
 use Rattle.refusals.specs.declared.Outcome.the-variants.{Refused}
-use Rattle.signature.specs.Tests.{added}
+use Rattle.signature.specs.Inverses.{added}
 use Rattle.params.specs.Accepted.{n-short}
 use Rattle.codes.specs.Answers.{checkFault, checkAnswer, rootsAfter, supportAfter}
 use Rattle.params.proofs.Stored.{offset-fits}

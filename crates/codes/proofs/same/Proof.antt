@@ -3,7 +3,7 @@ use mathlib.Core.Path.{sym, ap, ap₂, _∙_}
 use mathlib.Core.Bool.{Bool, _&&_}
 use lib.Dec.{eqb}
 use borrow.Author.Needs.{needs}
-use Rattle.refusals.specs.Rules.{refuse, accept}
+use Rattle.refusals.specs.RuleLaws.{refuse, accept}
 use Rattle.codes.specs.declared.Sameness.the-variants.{Refused}
 use Rattle.codes.specs.Same.{sameCode}
 use Rattle.codes.specs.Answers.{lowest, compared, sameFault, sameAnswer}

@@ -3,7 +3,7 @@ use mathlib.Core.Path.{refl}
 use Prim.Native.Nat.{ℕ, _-_}
 use lib.ListN.{length}
 use borrow.Author.Needs.{needs}
-use Rattle.algebra.specs.Tabulate.{Filling, filling-start, filling-length, filling-index, filling-turn, filling-end}
+use Rattle.algebra.specs.Filling.{Filling, filling-start, filling-length, filling-index, filling-turn, filling-end}
 use Rattle.dyadic.proofs.clear.Statement.{statement}
 use Rattle.dyadic.proofs.clear.Tie as tie
 

@@ -1,9 +1,9 @@
 -- `element_fault` meets its contract: each return is at the first rule that does not hold.
 use mathlib.Core.Path.{sym}
 use borrow.Author.Needs.{needs}
-use Rattle.algebra.specs.All.{failed, passed}
-use Rattle.refusals.specs.Rules.{fault-here, fault-past, fault-none}
-use Rattle.field.specs.Range.{width-is}
+use Rattle.algebra.specs.Flags.{failed, passed}
+use Rattle.refusals.specs.RuleLaws.{fault-here, fault-past, fault-none}
+use Rattle.field.specs.RangeLaws.{width-is}
 use Rattle.field.specs.Answers.{elementRules, elementFault}
 use Rattle.field.proofs.element_fault.Statement.{statement}
 use Rattle.field.proofs.element_fault.Tie as tie

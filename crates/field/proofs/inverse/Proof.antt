@@ -7,7 +7,8 @@ use borrow.Author.Needs.{needs}
 use borrow.Author.Tests.{eq-eqb, ne-eqb}
 use native.Mathlib.Omega.{arith}
 use Rattle.field.specs.declared.Answer.the-variants.{Element, Refused}
-use Rattle.refusals.specs.Rules.{_unless_, fault, fault-here, fault-past, fault-first, fault-rest, refuse, accept}
+use Rattle.refusals.specs.Rules.{_unless_, fault}
+use Rattle.refusals.specs.RuleLaws.{fault-here, fault-past, fault-first, fault-rest, refuse, accept}
 use Rattle.field.specs.Answers.{elementRules, elementFault, inverseFault, inverseAnswer}
 use Rattle.field.proofs.Shift.{element-fits}
 use Rattle.field.proofs.Checked.{element-checked}

@@ -2,8 +2,9 @@
 use mathlib.Core.Path.{sym, _∙_}
 use mathlib.Core.List.{[], _∷_}
 use borrow.Author.Needs.{needs}
-use Rattle.algebra.specs.All.{failed, passed}
-use Rattle.refusals.specs.Rules.{_unless_, fault-here, fault-none, fault-first, fault-rest}
+use Rattle.algebra.specs.Flags.{failed, passed}
+use Rattle.refusals.specs.Rules.{_unless_}
+use Rattle.refusals.specs.RuleLaws.{fault-here, fault-none, fault-first, fault-rest}
 use Rattle.field.specs.Range.{isElement}
 use Rattle.field.specs.Answers.{elementRules, elementFault, pairFault}
 use Rattle.field.proofs.Checked.{element-checked}

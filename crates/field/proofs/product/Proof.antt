@@ -2,7 +2,7 @@
 use mathlib.Core.Path.{sym, ap, _∙_}
 use borrow.Author.Needs.{needs}
 use Rattle.field.specs.declared.Answer.the-variants.{Element, Refused}
-use Rattle.refusals.specs.Rules.{refuse, accept}
+use Rattle.refusals.specs.RuleLaws.{refuse, accept}
 use Rattle.field.specs.Answers.{productAnswer}
 use Rattle.field.proofs.Shift.{element-fits}
 use Rattle.field.proofs.Checked.{pair-checked}

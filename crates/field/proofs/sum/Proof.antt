@@ -1,9 +1,10 @@
 -- `sum` meets its contract: elements are below 2^m, and so is their exclusive or.
 use mathlib.Core.Path.{sym, _∙_}
 use borrow.Author.Needs.{needs}
-use Rattle.algebra.specs.Xor.{_⊕_, ⊕-lt}
+use Rattle.algebra.specs.Xor.{_⊕_}
+use Rattle.algebra.specs.XorLaws.{⊕-lt}
 use Rattle.field.specs.declared.Answer.the-variants.{Refused}
-use Rattle.refusals.specs.Rules.{refuse, accept}
+use Rattle.refusals.specs.RuleLaws.{refuse, accept}
 use Rattle.field.specs.Answers.{sumAnswer}
 use Rattle.field.proofs.Shift.{element-fits}
 use Rattle.field.proofs.Checked.{pair-checked}

@@ -6,7 +6,7 @@ use lib.Dec.{eqb}
 use lib.ListN.{length}
 use borrow.Author.Needs.{needs}
 use borrow.Author.Tests.{eq-eqb, ne-eqb}
-use Rattle.algebra.specs.All.{Scanning, scanning-start, scanning-turn, scanning-fails, scanning-end}
+use Rattle.algebra.specs.Scanning.{Scanning, scanning-start, scanning-turn, scanning-fails, scanning-end}
 use Rattle.algebra.specs.Lists.{entryOf}
 use Rattle.fields.specs.Fields.{holdsAt}
 use Rattle.fields.proofs.holds.Statement.{statement}

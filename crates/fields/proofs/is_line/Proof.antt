@@ -4,7 +4,8 @@ use mathlib.Core.Bool.{Bool, _&&_}
 use Prim.Native.Nat.{_+_, _*_, _-_}
 use native.Mathlib.Omega.{arith}
 use lib.Dec.{eqb}
-use Rattle.algebra.specs.All.{failed, passed, Scanning, scanning-start, scanning-turn, scanning-fails, scanning-end}
+use Rattle.algebra.specs.Flags.{failed, passed}
+use Rattle.algebra.specs.Scanning.{Scanning, scanning-start, scanning-turn, scanning-fails, scanning-end}
 use Rattle.algebra.specs.Lists.{entryOf}
 use Rattle.fields.specs.Fields.{fieldWidth, lineEnd, isNumber, isLine}
 use Rattle.fields.proofs.is_line.Statement.{statement}

@@ -6,7 +6,7 @@ use native.Mathlib.Omega.{arith}
 use borrow.Author.Tests.{eq-eqb, ne-eqb, le-ltb, lt-ltb}
 use lib.Dec.{eqb, ltb}
 use lib.ListN.{length}
-use Rattle.algebra.specs.All.{Scanning, scanning-turn, scanning-fails, scanning-end}
+use Rattle.algebra.specs.Scanning.{Scanning, scanning-turn, scanning-fails, scanning-end}
 use Rattle.algebra.specs.Lists.{entryOf}
 use Rattle.gears.specs.Rows.{rowBits, furtherZero}
 use Rattle.gears.proofs.no_further_bits.Statement.{statement}

@@ -2,7 +2,7 @@
 use mathlib.Core.Path.{ap, _∙_}
 use mathlib.Core.List.{List, [], _∷_}
 use Prim.Native.Nat.{ℕ}
-use Rattle.refusals.specs.Rules.{refuse, accept}
+use Rattle.refusals.specs.RuleLaws.{refuse, accept}
 use Rattle.fields.specs.Fields.{lineText}
 use Rattle.listing.specs.Answers.{storedAnswer, storedAfter, sheetListing, printedText, printedAnswer, printedAfter}
 use borrow.Author.Needs.{needs}

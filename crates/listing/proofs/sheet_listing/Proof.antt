@@ -5,7 +5,7 @@ use Prim.Native.Nat.{ℕ, _≤_, _<_}
 use native.Mathlib.Omega.{arith}
 use lib.ListN.{length}
 use lib.Seq.{length-take-le}
-use Rattle.fields.specs.Written.{over}
+use Rattle.fields.specs.Over.{over}
 use Rattle.sheets.specs.Laws.{sheet-is}
 use Rattle.sheets.specs.Reading.{sheet-long}
 use Rattle.sheets.proofs.Held.{n-small, n-is, code-held}

@@ -1,7 +1,7 @@
 -- `combine` meets its contract. The loop's invariant: the coefficients passed are combined, and the rest is as it was.
 use Prim.Native.Nat.{_-_, _≤_}
 use native.Mathlib.Omega.{arith}
-use Rattle.algebra.specs.Tabulate.{Filling, filling-index, filling-length}
+use Rattle.algebra.specs.Filling.{Filling, filling-index, filling-length}
 use Rattle.algebra.specs.Xor.{_⊕_}
 use Rattle.locator.specs.Coefficients.{half}
 use Rattle.locator.proofs.Loops.{combined, combine-start, combine-element, combine-turn, combine-end}

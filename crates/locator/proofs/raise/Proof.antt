@@ -2,7 +2,7 @@
 use mathlib.Core.Path.{_≡_, refl}
 use Prim.Native.Nat.{_+_, _-_}
 use native.Mathlib.Omega.{arith}
-use Rattle.algebra.specs.Tabulate.{filling-length}
+use Rattle.algebra.specs.Filling.{filling-length}
 use Rattle.algebra.specs.Xor.{_⊕_}
 use Rattle.locator.proofs.Loops.{Raising, raise-start, raise-index, raise-element, raise-turn, raise-end}
 use Rattle.locator.proofs.raise.Statement.{statement}

@@ -3,7 +3,7 @@ use mathlib.Core.Path.{_≡_, refl, _∙_}
 use Prim.Native.Nat.{_-_}
 use native.Mathlib.Omega.{arith}
 use lib.ListN.{length-set}
-use Rattle.algebra.specs.Tabulate.{Filling, filling-start, filling-index, filling-turn, filling-length}
+use Rattle.algebra.specs.Filling.{Filling, filling-start, filling-index, filling-turn, filling-length}
 use Rattle.locator.specs.Coefficients.{half}
 use Rattle.locator.proofs.Loops.{constant-end}
 use Rattle.locator.proofs.set_constant.Statement.{statement}

@@ -2,8 +2,8 @@
 use mathlib.Core.Path.{sym}
 use borrow.Author.Tests.{eq-eqb, ne-eqb}
 use borrow.Author.Needs.{needs}
-use Rattle.algebra.specs.All.{failed, passed}
-use Rattle.refusals.specs.Rules.{fault-here, fault-past, fault-none}
+use Rattle.algebra.specs.Flags.{failed, passed}
+use Rattle.refusals.specs.RuleLaws.{fault-here, fault-past, fault-none}
 use Rattle.messages.specs.MessageRules.{messageRules}
 use Rattle.messages.proofs.message_fault.Statement.{statement}
 use Rattle.messages.proofs.message_fault.Tie as tie

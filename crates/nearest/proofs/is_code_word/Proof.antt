@@ -4,7 +4,7 @@ use Prim.Native.Nat.{_-_}
 use native.Mathlib.Omega.{arith}
 use borrow.Author.Tests.{eq-eqb, ne-eqb}
 use lib.Dec.{eqb}
-use Rattle.algebra.specs.All.{Scanning, scanning-start, scanning-turn, scanning-fails, scanning-end}
+use Rattle.algebra.specs.Scanning.{Scanning, scanning-start, scanning-turn, scanning-fails, scanning-end}
 use Rattle.parity.specs.Parity.{reaches, signature-syndrome}
 use Rattle.parity.specs.Word.{syndromeAt, isCodeWord}
 use Rattle.nearest.proofs.Decoding.{summed}

@@ -6,8 +6,9 @@ use Prim.Native.Nat.{ℕ, _-_}
 use native.Mathlib.Nat.{add-zero}
 use native.Mathlib.Omega.{arith}
 use lib.ListN.{length}
-use Rattle.algebra.specs.Tabulate.{filling-index, filling-length, filling-end}
-use Rattle.algebra.specs.Xor.{_⊕_, ⊕-zero}
+use Rattle.algebra.specs.Filling.{filling-index, filling-length, filling-end}
+use Rattle.algebra.specs.Xor.{_⊕_}
+use Rattle.algebra.specs.XorLaws.{⊕-zero}
 use Rattle.algebra.specs.Places.{count}
 use Rattle.nearest.specs.Decoding.{rootPlace}
 use Rattle.nearest.specs.Turned.{turned}

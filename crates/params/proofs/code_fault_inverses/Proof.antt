@@ -2,7 +2,7 @@
 use mathlib.Core.Path.{sym, _∙_}
 use native.Mathlib.Omega.{arith}
 use borrow.Author.Needs.{needs}
-use Rattle.algebra.specs.All.{passed, failed}
+use Rattle.algebra.specs.Flags.{passed, failed}
 use Rattle.params.proofs.Faults.{shaped, shape-number, signature-number, roots-number, no-number}
 use Rattle.params.proofs.code_fault_inverses.Statement.{statement}
 use Rattle.params.proofs.code_fault_inverses.Tie as tie

@@ -4,9 +4,9 @@ use mathlib.Core.Bool.{Bool, _&&_}
 use lib.Dec.{eqb}
 use lib.ListN.{length}
 use borrow.Author.Needs.{needs}
-use Rattle.algebra.specs.All.{passed, failed}
-use Rattle.refusals.specs.Rules.{fault-here, fault-past, fault-none}
-use Rattle.field.specs.Range.{width-is}
+use Rattle.algebra.specs.Flags.{passed, failed}
+use Rattle.refusals.specs.RuleLaws.{fault-here, fault-past, fault-none}
+use Rattle.field.specs.RangeLaws.{width-is}
 use Rattle.params.proofs.Faults.{width-number, size-number, element-number}
 use Rattle.params.proofs.shape_fault.Statement.{statement}
 use Rattle.params.proofs.shape_fault.Tie as tie

@@ -5,7 +5,9 @@ use Prim.Native.Nat.{ℕ, _-_, _≤_}
 use native.Mathlib.Omega.{arith}
 use lib.ListN.{length, take, drop, set}
 use lib.Seq.{take-at}
-use Rattle.algebra.specs.Tabulate.{tabulate, length-tabulate, filled, filled-start, filled-turn, length-filled}
+use Rattle.algebra.specs.Tabulate.{tabulate}
+use Rattle.algebra.specs.TabulateLaws.{length-tabulate}
+use Rattle.algebra.specs.Filling.{filled, filled-start, filled-turn, length-filled}
 use Rattle.slices.specs.Lengths.{longest}
 use Rattle.parity.specs.Word.{whole}
 use borrow.Author.Needs.{needs}

@@ -1,6 +1,6 @@
 -- `ended` meets its contract.
 use mathlib.Core.Path.{refl}
-use Rattle.refusals.specs.Rules.{refuse, accept}
+use Rattle.refusals.specs.RuleLaws.{refuse, accept}
 use Rattle.refusals.specs.declared.Outcome.the-variants.{Done, Refused}
 use Rattle.refusals.proofs.ended.Statement.{statement}
 use Rattle.refusals.proofs.ended.Tie as tie

@@ -5,7 +5,7 @@ use Prim.Native.Nat.{_+_}
 use native.Mathlib.Omega.{arith}
 use lib.ListN.{length}
 use borrow.Author.Tests.{eq-eqb}
-use Rattle.algebra.specs.All.{refuted, failed, passed}
+use Rattle.algebra.specs.Flags.{refuted, failed, passed}
 use Rattle.fields.specs.Fields.{lineLength, isLine}
 use Rattle.sheets.specs.Sheet.{second, sheetN, isSheet}
 use Rattle.sheets.specs.Reading.{sheet-long, sheet-first}

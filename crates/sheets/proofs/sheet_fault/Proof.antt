@@ -4,8 +4,8 @@ use Prim.Native.Nat.{_≤_}
 use native.Mathlib.Omega.{arith}
 use lib.ListN.{length}
 use lib.Seq.{length-take-le}
-use Rattle.algebra.specs.All.{failed, passed}
-use Rattle.refusals.specs.Rules.{fault-here}
+use Rattle.algebra.specs.Flags.{failed, passed}
+use Rattle.refusals.specs.RuleLaws.{fault-here}
 use Rattle.sheets.specs.Fault.{sheetFault, sheetRules}
 use Rattle.sheets.specs.Reading.{sheet-long}
 use Rattle.sheets.proofs.Held.{n-small, n-is, code-on-sheet, sheet-held}

@@ -5,8 +5,8 @@ use native.Mathlib.Omega.{arith}
 use lib.ListN.{length}
 use borrow.Author.Needs.{needs}
 use Rattle.algebra.specs.Xor.{_⊕_}
-use Rattle.algebra.specs.Tabulate.{Filling, filling-start, filling-index, filling-turn, filling-length, filling-end}
-use Rattle.signature.specs.Tests.{added}
+use Rattle.algebra.specs.Filling.{Filling, filling-start, filling-index, filling-turn, filling-length, filling-end}
+use Rattle.signature.specs.Inverses.{added}
 use Rattle.signature.proofs.add_each.Statement.{statement}
 use Rattle.signature.proofs.add_each.Tie as tie
 

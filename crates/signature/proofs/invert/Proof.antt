@@ -5,7 +5,7 @@ use Prim.Native.Nat.{ℕ, _-_, _≤_}
 use native.Mathlib.Omega.{arith}
 use lib.ListN.{length}
 use borrow.Author.Needs.{needs}
-use Rattle.algebra.specs.Tabulate.{getD-stored}
+use Rattle.algebra.specs.Filling.{getD-stored}
 use Rattle.field.specs.Gf.{Width, gf}
 use Rattle.signature.specs.Inverses.{before}
 use Rattle.algebra.specs.Lists.{entryOf}

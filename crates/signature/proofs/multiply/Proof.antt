@@ -4,7 +4,7 @@ use Prim.Native.Nat.{ℕ, _-_, _^_, _<_}
 use native.Mathlib.Omega.{arith}
 use lib.ListN.{length}
 use borrow.Author.Needs.{needs}
-use Rattle.algebra.specs.Tabulate.{filled}
+use Rattle.algebra.specs.Filling.{filled}
 use Rattle.field.specs.Gf.{Width}
 use Rattle.signature.specs.Inverses.{before}
 use Rattle.signature.proofs.Inverting.{before-in, Multiplying, multiplying-start, multiplying-length, multiplying-turn}

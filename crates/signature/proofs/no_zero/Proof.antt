@@ -6,7 +6,7 @@ use native.Mathlib.Omega.{arith}
 use lib.ListN.{length}
 use borrow.Author.Needs.{needs}
 use borrow.Author.Tests.{eq-eqb, ne-eqb}
-use Rattle.algebra.specs.All.{Scanning, scanning-start, scanning-turn, scanning-fails, scanning-end}
+use Rattle.algebra.specs.Scanning.{Scanning, scanning-start, scanning-turn, scanning-fails, scanning-end}
 use Rattle.signature.specs.Tests.{nonzero, noZero}
 use Rattle.signature.proofs.no_zero.Statement.{statement}
 use Rattle.signature.proofs.no_zero.Tie as tie

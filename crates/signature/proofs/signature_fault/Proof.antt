@@ -2,9 +2,9 @@
 use mathlib.Core.Path.{sym}
 use native.Mathlib.Omega.{arith}
 use borrow.Author.Needs.{needs}
-use Rattle.refusals.specs.Rules.{fault-here, fault-past, fault-none}
+use Rattle.refusals.specs.RuleLaws.{fault-here, fault-past, fault-none}
 use Rattle.signature.specs.Tests.{signatureRules}
-use Rattle.algebra.specs.All.{passed, failed}
+use Rattle.algebra.specs.Flags.{passed, failed}
 use Rattle.signature.proofs.Inverses.{equal-to-first}
 use Rattle.signature.proofs.signature_fault.Statement.{statement}
 use Rattle.signature.proofs.signature_fault.Tie as tie

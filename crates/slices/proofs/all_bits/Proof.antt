@@ -6,7 +6,7 @@ use native.Mathlib.Omega.{arith}
 use borrow.Author.Tests.{le-ltb, lt-ltb}
 use lib.Dec.{ltb}
 use lib.ListN.{length}
-use Rattle.algebra.specs.All.{Scanning, scanning-start, scanning-turn, scanning-fails, scanning-end}
+use Rattle.algebra.specs.Scanning.{Scanning, scanning-start, scanning-turn, scanning-fails, scanning-end}
 use Rattle.algebra.specs.Lists.{entryOf}
 use Rattle.slices.specs.Bits.{allBits}
 use Rattle.slices.proofs.all_bits.Statement.{statement}

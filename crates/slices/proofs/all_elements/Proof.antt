@@ -3,7 +3,8 @@ use mathlib.Core.Path.{_≡_, refl}
 use Prim.Native.Nat.{_-_}
 use native.Mathlib.Omega.{arith}
 use lib.ListN.{length}
-use Rattle.algebra.specs.All.{failed, passed, Scanning, scanning-start, scanning-turn, scanning-fails, scanning-end}
+use Rattle.algebra.specs.Flags.{failed, passed}
+use Rattle.algebra.specs.Scanning.{Scanning, scanning-start, scanning-turn, scanning-fails, scanning-end}
 use Rattle.algebra.specs.Lists.{entryOf}
 use Rattle.field.specs.Gf.{Width}
 use Rattle.field.specs.Range.{isElement}

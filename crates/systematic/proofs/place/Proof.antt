@@ -6,7 +6,7 @@ use mathlib.Core.Logic.{⊎-elim}
 use Prim.Native.Nat.{_-_}
 use native.Mathlib.Omega.{arith}
 use lib.ListN.{length}
-use Rattle.algebra.specs.Tabulate.{filling-index, filling-length, filling-end}
+use Rattle.algebra.specs.Filling.{filling-index, filling-length, filling-end}
 use Rattle.basis.specs.Table.{placedAt}
 use Rattle.systematic.proofs.Places.{led, free, Placing, place-start, place-index, place-turn}
 use borrow.Author.Needs.{needs}

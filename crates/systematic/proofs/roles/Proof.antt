@@ -5,7 +5,7 @@ use mathlib.Core.Logic.{⊎-elim}
 use Prim.Native.Nat.{_-_}
 use native.Mathlib.Omega.{arith}
 use lib.ListN.{length}
-use Rattle.algebra.specs.Tabulate.{Filling, filling-start, filling-index, filling-length, filling-end}
+use Rattle.algebra.specs.Filling.{Filling, filling-start, filling-index, filling-length, filling-end}
 use Rattle.systematic.proofs.Places.{led, free, atFree, filling-place}
 use borrow.Author.Needs.{needs}
 use Rattle.systematic.proofs.roles.Statement.{statement}

@@ -2,7 +2,7 @@
 use mathlib.Core.Path.{refl, ap, _∙_}
 use native.Mathlib.Omega.{arith}
 use borrow.Author.Tests.{eqb-true}
-use Rattle.refusals.specs.Rules.{refuse, accept}
+use Rattle.refusals.specs.RuleLaws.{refuse, accept}
 use Rattle.params.specs.Code.{codeFault}
 use Rattle.parity.specs.Columns.{rolesOf, dimension}
 use Rattle.parity.specs.Whole.{whole-accepted, whole-short, whole-columns, whole-long}

@@ -2,7 +2,7 @@
 use mathlib.Core.Path.{refl, _∙_}
 use native.Mathlib.Omega.{arith}
 use borrow.Author.Tests.{eqb-true}
-use Rattle.algebra.specs.All.{both-true}
+use Rattle.algebra.specs.Flags.{both-true}
 use Rattle.parity.specs.Whole.{whole-refuses-both, whole-accepted, whole-short, whole-columns, whole-long, whole-ends}
 use Rattle.parity.specs.Word.{syndromeOf}
 use Rattle.words.specs.Answers.{bitRules, syndromeFault, syndromeAnswer, syndromeAfter}

@@ -4,7 +4,8 @@ use mathlib.Core.List.{List}
 use Prim.Native.Nat.{ℕ, _-_}
 use native.Mathlib.Omega.{arith}
 use lib.ListN.{length}
-use Rattle.algebra.specs.Tabulate.{getD-tabulate, Filling, filling-start, filling-index, filling-turn, filling-length, filling-end}
+use Rattle.algebra.specs.TabulateLaws.{getD-tabulate}
+use Rattle.algebra.specs.Filling.{Filling, filling-start, filling-index, filling-turn, filling-length, filling-end}
 use Rattle.algebra.specs.Lists.{entryOf}
 use Rattle.basis.proofs.elimination.no_leads.Statement.{statement}
 use borrow.Author.Needs.{needs}

@@ -2,7 +2,8 @@
 use mathlib.Core.Path.{refl}
 use native.Mathlib.Omega.{arith}
 use lib.Bits.{bitXor}
-use Rattle.algebra.specs.Bits.{bitAt, bitAt-lt}
+use Rattle.algebra.specs.Bits.{bitAt}
+use Rattle.algebra.specs.BitLaws.{bitAt-lt}
 use Rattle.algebra.specs.Xor.{_⊕_}
 use Rattle.algebra.specs.Lists.{entryOf}
 use Rattle.basis.specs.Table.{parityBit}

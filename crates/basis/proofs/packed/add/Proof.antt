@@ -4,7 +4,8 @@ use Prim.Native.Nat.{ℕ, _-_}
 use native.Mathlib.Nat.{le-refl}
 use native.Mathlib.Omega.{arith}
 use lib.ListN.{length}
-use Rattle.algebra.specs.Tabulate.{tabulate, Filling, filling-start, filling-index, filling-turn, filling-old, filling-length, filling-end}
+use Rattle.algebra.specs.Tabulate.{tabulate}
+use Rattle.algebra.specs.Filling.{Filling, filling-start, filling-index, filling-turn, filling-old, filling-length, filling-end}
 use Rattle.algebra.specs.Xor.{_⊕_}
 use Rattle.algebra.specs.Lists.{entryOf}
 use Rattle.basis.specs.Packed.{Added, added}

@@ -6,7 +6,8 @@ use borrow.Author.Needs.{needs}
 use Rattle.algebra.specs.Xor.{_⊕_}
 use Rattle.field.specs.Words.{words, word}
 use Rattle.field.specs.Ring.{bit-lt}
-use Rattle.field.specs.Gf.{Width, gf-isField}
+use Rattle.field.specs.Gf.{Width}
+use Rattle.field.specs.GfLaws.{gf-isField}
 use Rattle.field.proofs.Shift.{element-fits, Gathering, gather-start, gather-turn, gather-end}
 use Rattle.field.proofs.internal.product.Statement.{statement}
 use Rattle.field.proofs.internal.product.Tie as tie

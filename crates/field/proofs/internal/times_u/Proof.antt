@@ -1,12 +1,12 @@
 -- `internal::times_u` meets its contract: the carry is 0 or 1, so the word is taken away no time or once, and nothing overflows.
-use mathlib.Core.Path.{_≡_, sym, ap, _∙_, subst}
+use mathlib.Core.Path.{sym, ap, _∙_, subst}
 use Prim.Native.Nat.{ℕ, suc, _*_, _/_, _<_, _^_}
 use native.Mathlib.Omega.{arith}
 use lib.Bits.{bitXor}
 use borrow.Author.Needs.{needs}
 use Rattle.field.specs.Words.{widest, word}
 use Rattle.field.specs.Ring.{timesU-lt}
-use Rattle.field.specs.Gf.{gf-isField}
+use Rattle.field.specs.GfLaws.{gf-isField}
 use Rattle.field.proofs.Shift.{element-fits, carry-fits, shift-step}
 use Rattle.field.proofs.internal.times_u.Statement.{statement}
 use Rattle.field.proofs.internal.times_u.Tie as tie

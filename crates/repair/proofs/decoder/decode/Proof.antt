@@ -2,8 +2,8 @@
 use mathlib.Core.Path.{sym, _∙_}
 use mathlib.Core.Logic.{inl, inr}
 use native.Mathlib.Omega.{arith}
-use Rattle.algebra.specs.All.{failed, passed}
-use Rattle.slices.specs.Bits.{received-bits}
+use Rattle.algebra.specs.Flags.{failed, passed}
+use Rattle.slices.specs.BitLaws.{received-bits}
 use Rattle.parity.specs.Selected.{columns-short}
 use Rattle.repair.proofs.Decoding.{no-word, code-word-decoded, candidate-refused, candidate-decoded, candidate-bits, candidate-few}
 use borrow.Author.Needs.{needs}

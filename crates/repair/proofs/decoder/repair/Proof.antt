@@ -3,7 +3,7 @@ use mathlib.Core.Path.{sym, ap, _∙_, subst}
 use native.Mathlib.Omega.{arith}
 use lib.ListN.{length, drop, replicate}
 use lib.Seq.{length-take-le, take-at}
-use Rattle.algebra.specs.Lists.{front-long}
+use Rattle.algebra.specs.ListLaws.{front-long}
 use Rattle.slices.specs.Lengths.{longest}
 use Rattle.parity.specs.Selected.{columns-short}
 use Rattle.repair.specs.declared.Recovery.{Recovery}

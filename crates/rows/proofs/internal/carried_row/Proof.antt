@@ -3,7 +3,7 @@ use mathlib.Core.Path.{sym, ap, _∙_}
 use mathlib.Core.List.{List}
 use Prim.Native.Nat.{ℕ}
 use lib.ListN.{length}
-use Rattle.algebra.specs.All.{failed, passed}
+use Rattle.algebra.specs.Flags.{failed, passed}
 use Rattle.algebra.specs.Lists.{entryOf}
 use Rattle.algebra.specs.Places.{chosen}
 use Rattle.basis.specs.Table.{freeAt}

@@ -6,7 +6,8 @@ use native.Mathlib.Nat.{le-trans}
 use native.Mathlib.Omega.{arith}
 use lib.ListN.{length, drop}
 use lib.Seq.{take-at}
-use Rattle.algebra.specs.Lists.{entryOf, front-long}
+use Rattle.algebra.specs.Lists.{entryOf}
+use Rattle.algebra.specs.ListLaws.{front-long}
 use Rattle.algebra.specs.Places.{chosen}
 use Rattle.basis.specs.Table.{freeAt, freeCount}
 use Rattle.messages.specs.CodeBasis.{counted, fewer, message-is}

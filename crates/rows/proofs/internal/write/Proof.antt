@@ -3,7 +3,7 @@ use mathlib.Core.Path.{sym, ap, _∙_, subst}
 use Prim.Native.Nat.{ℕ}
 use native.Mathlib.Nat.{le-of-eq, le-trans}
 use native.Mathlib.Omega.{arith}
-use Rattle.algebra.specs.All.{failed, passed}
+use Rattle.algebra.specs.Flags.{failed, passed}
 use Rattle.basis.specs.Table.{freeCount, Form}
 use Rattle.messages.specs.CodeBasis.{counted, fewer}
 use Rattle.parity.specs.Selected.{columns-short}

@@ -2,11 +2,12 @@
 use mathlib.Core.Path.{refl, sym, ap, _∙_, subst}
 use Prim.Native.Nat.{ℕ}
 use native.Mathlib.Omega.{arith}
-use Rattle.algebra.specs.All.{failed, passed}
-use Rattle.algebra.specs.Tabulate.{tabulate, tabulate-cong}
+use Rattle.algebra.specs.Flags.{failed, passed}
+use Rattle.algebra.specs.Tabulate.{tabulate}
+use Rattle.algebra.specs.TabulateLaws.{tabulate-cong}
 use Rattle.refusals.specs.Ending.{ended-refused, ended-done}
-use Rattle.refusals.specs.Rules.{fault-here, fault-none}
-use Rattle.slices.specs.Bits.{bits-are}
+use Rattle.refusals.specs.RuleLaws.{fault-here, fault-none}
+use Rattle.slices.specs.BitLaws.{bits-are}
 use Rattle.basis.specs.Table.{Reaches}
 use Rattle.words.specs.Answers.{bitRules}
 use Rattle.parity.specs.Parity.{signatureSum, signature-syndrome, reaches}
