@@ -1,5 +1,5 @@
--- Demand 2 of what `check` answers: within 01's limits it accepts a signature exactly if a Cauchy pair exists, and what then stands in the buffers is such
--- a pair.
+-- Demand 2 of what `check` answers: within 01's limits it accepts a signature exactly if a Cauchy pair exists, and what then stands in the buffers
+-- is such a pair.
 use mathlib.Core.Path.{_≡_, sym, ap, ap₂, _∙_, subst}
 use mathlib.Core.Logic.{_↔_}
 use mathlib.Core.Bool.{Bool, _&&_}

@@ -2,20 +2,20 @@
 -- brings back its number from the table in 01 with each buffer unchanged."
 --
 -- That every call ends is part of its proof. Of each call there is said here that a refusal leaves each buffer as it was (`..-unchanged`); and that
--- it gives its value exactly if all its rules hold, and is refused otherwise by the lowest number that applies (`..-refuses`). The rules of five
+-- it gives its value exactly if all its rules hold, is refused otherwise, and by the lowest number that applies (`..-refuses`). The rules of five
 -- calls come in parts, since 01 has exceptions from the lowest number: 12 comes after 7 and before all others (`write-row`, `read-row`), the 2 of a
 -- message's length comes after 7 and before 8 (`encode`, `message`), and 13 comes first, and the 2 of a short buffer last, for a sheet (`listing`).
 use mathlib.Core.Path.{_≡_, refl, sym, ap₂, subst}
 use mathlib.Core.Logic.{_≢_, _↔_, _⊎_, inl, inr}
 use mathlib.Core.Bool.{true, not, _&&_}
 use mathlib.Core.List.{List, [], _∷_, _++_}
-use Prim.Native.Nat.{ℕ, zero, suc, min, _<_, _≤_}
-use native.Mathlib.Decide.{decLt}
+use Prim.Native.Nat.{ℕ}
 use native.Mathlib.Omega.{arith}
 use lib.Dec.{eqb, leb}
 use lib.ListN.{length}
 use Rattle.algebra.specs.Xor.{_⊕_}
-use Rattle.refusals.specs.Answered.{value-none, refused-leaves, refused-due, holds-given, done-apart, same-outcome, counted-apart, same-counted}
+use Rattle.refusals.specs.Answered.{value-or-refused, value-none, refused-leaves, refused-due, holds-given, done-apart, same-outcome}
+use Rattle.refusals.specs.Answered.{counted-apart, same-counted}
 use Rattle.refusals.specs.declared.Counted.the-variants.{Count, Refused as NotCounted}
 use Rattle.refusals.specs.declared.Outcome.the-variants.{Done, Refused}
 use Rattle.refusals.specs.Rules.{Rule, _unless_, Hold, fault, unless-refused}
@@ -34,7 +34,7 @@ use Rattle.params.specs.Code.{shapeRules, codeRules, codeFault}
 use Rattle.signature.specs.Tests.{signatureRules}
 use Rattle.codes.specs.declared.Sameness.the-variants.{Refused as NotCompared}
 use Rattle.codes.specs.Answers.{checkFault, checkAnswer, rootsAfter, supportAfter, lowest as lower, compared, sameFault, sameAnswer}
-use Rattle.codes.specs.Lowest.{lowest-none}
+use Rattle.codes.specs.Lowest.{lowest-none, lowest-is}
 use Rattle.codes.specs.Same.{sameCode}
 use Rattle.parity.specs.Columns.{messageLength}
 use Rattle.parity.specs.Word.{whole}
@@ -55,18 +55,25 @@ use Rattle.demands.specs.Lowest.{allRules, risingParts, InOrder, parts-n
 use Rattle.demands.specs.Outcomes.{element-apart, same-element, repaired-apart, same-recovery, read-apart, same-reading}
 use Rattle.demands.specs.Outcomes.{compared-apart, same-sameness}
 
--- a call with these rules has its value exactly if they all hold, and a refusal gives the lowest number that applies
+-- a call ends in its value or in a refusal
+abbrev pub EndsIn : {A : Type 0} → A → (ℕ → A) → A → Type 0
+EndsIn answer refused value = (answer ≡ value) ⊎ ((k : ℕ) × (answer ≡ refused k))
+
+-- a call with these rules has its value exactly if they all hold, is refused otherwise, and by the lowest number that applies
 abbrev pub Refuses : {A : Type 0} → A → (ℕ → A) → A → List Rule → Type 0
-Refuses answer refused value rules = (Hold rules ↔ (answer ≡ value)) × ((k : ℕ) → answer ≡ refused k → Lowest k rules)
+Refuses answer refused value rules =
+    (Hold rules ↔ (answer ≡ value)) × EndsIn answer refused value × ((k : ℕ) → answer ≡ refused k → Lowest k rules)
 
 -- the same of a call whose rules come in parts
 abbrev pub RefusesInOrder : {A : Type 0} → A → (ℕ → A) → A → List (List Rule) → Type 0
-RefusesInOrder answer refused value parts = (Hold (allRules parts) ↔ (answer ≡ value)) × ((k : ℕ) → answer ≡ refused k → InOrder k parts)
+RefusesInOrder answer refused value parts =
+    (Hold (allRules parts) ↔ (answer ≡ value)) × EndsIn answer refused value × ((k : ℕ) → answer ≡ refused k → InOrder k parts)
 
 module _ {A : Type 0} (refused : ℕ → A) (value : A) (apart : (k : ℕ) → refused k ≢ value) (same : (i j : ℕ) → refused i ≡ refused j → i ≡ j) where
   refuses : (rules : List Rule) → rising 1 rules ≡ true → Refuses (unless-refused (fault rules) refused value) refused value rules
   refuses rules r = (
     (holds-given rules refused value, λ e. hold rules (rising-numbered 1 rules (omega arith) r) (value-none refused value apart (fault rules) e)),
+    value-or-refused refused value (fault rules),
     λ k e.
         let (ne, is) = refused-due refused value apart same (fault rules) e in subst (λ (i : ℕ). Lowest i rules) is (lowest rules r ne),
   )
@@ -78,6 +85,7 @@ module _ {A : Type 0} (refused : ℕ → A) (value : A) (apart : (k : ℕ) → r
       holds-given (allRules parts) refused value,
       λ e. hold (allRules parts) (parts-numbered parts r) (value-none refused value apart (fault (allRules parts)) e),
     ),
+    value-or-refused refused value (fault (allRules parts)),
     λ k e.
         let (ne, is) = refused-due refused value apart same (fault (allRules parts)) e in
         subst (λ (i : ℕ). InOrder i parts) is (in-order parts r ne),
@@ -146,18 +154,6 @@ module _ (c : Parameters) (h roots support : List ℕ) where
   check-refuses =
       refuses Refused Done done-apart same-outcome (codeRules (eqb (length roots) (c .n) && eqb (length support) (c .n)) c h) refl
 
--- the lower of two numbers is one of them, and not above the other
-lower-is : (a b : ℕ) → lower a b ≢ 0
-    → (((lower a b ≡ a) × (a ≢ 0)) ⊎ ((lower a b ≡ b) × (b ≢ 0))) × ((a ≡ 0) ⊎ (lower a b ≤ a)) × ((b ≡ 0) ⊎ (lower a b ≤ b))
-unfolding lower
-lower-is zero b ne = (inr (refl, ne), inl refl, inr (omega arith))
-lower-is (suc a) zero ne = (inl (refl, ne), inr (omega arith), inl refl)
-lower-is (suc a) (suc b) ne = (decided (decLt a b), inr (omega arith), inr (omega arith))
-  where
-    decided : Dec (a < b) → ((min (suc a) (suc b) ≡ suc a) × (suc a ≢ 0)) ⊎ ((min (suc a) (suc b) ≡ suc b) × (suc b ≢ 0))
-    decided (yes l) = inl (omega arith, λ z. omega arith)
-    decided (no nl) = inr (omega arith, λ z. omega arith)
-
 -- `same` has two codes: its number is the lowest that applies to either, "the lowest of both cards"
 module _ (c₁ : Parameters) (h₁ : List ℕ) (c₂ : Parameters) (h₂ : List ℕ) where
   abbrev rules₁ : List Rule
@@ -176,13 +172,17 @@ module _ (c₁ : Parameters) (h₁ : List ℕ) (c₂ : Parameters) (h₂ : List 
         (hold rules₁ tt p, hold rules₂ tt q),
   )
 
+  pub same-ends : EndsIn (sameAnswer c₁ h₁ c₂ h₂) NotCompared (compared (sameCode c₁ h₁ c₂ h₂))
+  unfolding sameAnswer
+  same-ends = value-or-refused NotCompared (compared (sameCode c₁ h₁ c₂ h₂)) (sameFault c₁ h₁ c₂ h₂)
+
   pub same-refuses : (k : ℕ) → sameAnswer c₁ h₁ c₂ h₂ ≡ NotCompared k
       → (Fails k (codeRules true c₁ h₁) ⊎ Fails k (codeRules true c₂ h₂))
       × HoldBelow k (codeRules true c₁ h₁) × HoldBelow k (codeRules true c₂ h₂)
   unfolding sameAnswer sameFault codeFault codeRules shapeRules signatureRules
   same-refuses k e =
       let (ne, is) = refused-due NotCompared _ (compared-apart (sameCode c₁ h₁ c₂ h₂)) same-sameness _ e in
-      let (one, p, q) = lower-is (fault rules₁) (fault rules₂) ne in
+      let (one, p, q) = lowest-is (fault rules₁) (fault rules₂) ne in
       subst (λ (i : ℕ). (Fails i rules₁ ⊎ Fails i rules₂) × HoldBelow i rules₁ × HoldBelow i rules₂) is
       (either one, below-fault rules₁ refl _ p, below-fault rules₂ refl _ q)
     where

@@ -214,7 +214,7 @@ module _ (m : ℕ) (a out : List ℕ) where
   dead : inverseAnswer m a out ≡ Refused 9 → Shaped × (total (gf m) a ≡ 0)
   unfolding inverseRules blockRules sizeRules
   dead e =
-      let below = block-inverse-refuses m a out .1 9 e .below in
+      let below = block-inverse-refuses m a out .2 9 e .below in
       let w = below .0 (omega arith) in
       let p = below .1 .0 (omega arith) in
       let fits = below .1 .1 .0 (omega arith) in

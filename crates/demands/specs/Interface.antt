@@ -35,8 +35,10 @@ use Rattle.params.specs.Accepted.{accepted, n-short}
 use Rattle.params.specs.Code.{shapeRules, codeRules, codeFault}
 use Rattle.codes.specs.declared.Sameness.the-variants.{Refused as NotCompared}
 use Rattle.codes.specs.Answers.{checkFault, checkAnswer, lowest, compared, sameFault, sameAnswer}
+use Rattle.codes.specs.Lowest.{lowest-le}
 use Rattle.codes.specs.Same.{sameCode}
-use Rattle.parity.specs.Columns.{isMessageColumn, dimension, messageLength}
+use Rattle.parity.specs.Columns.{messageLength}
+use Rattle.parity.specs.ColumnLaws.{messageLength-le}
 use Rattle.parity.specs.Selected.{length-whole}
 use Rattle.parity.specs.Word.{whole}
 use Rattle.messages.specs.MessageRules.{messageRules}
@@ -202,15 +204,14 @@ module _ (c : Parameters) (h : List ℕ) where
       (count-le (length (whole (c .n))) (differs received (repairedOf c h (whole (c .n)) received)))))
 
   pub zov-roles : (out : List ℕ) → ToldApart countedCode (rolesAnswer c h out) NotCounted (Count (messageLength c h))
-  unfolding rolesAnswer rolesFault codeRules shapeRules signatureRules dimension
+  unfolding rolesAnswer rolesFault codeRules shapeRules signatureRules
   zov-roles out =
       let lent = eqb (length out) (c .n) in
       told-apart countedCode NotCounted (Count (messageLength c h)) (counted-apart _) same-counted (λ k. refl) (fault (codeRules lent c h))
       (fault-up-to greatestNumber (codeRules lent c h) refl)
       (λ none.
       let short = n-short (accepted lent c h none .1 .limits) in
-      let few : messageLength c h ≤ length (whole (c .n)) = count-le (length (whole (c .n))) (isMessageColumn c h (whole (c .n))) in
-      omega (arith, length-whole (c .n)))
+      omega (arith, messageLength-le c h))
 
   pub zov-read-row : (received repaired : List ℕ)
       → ((row : Row) (count : ℕ) → readAnswer c h received repaired ≡ Read row count → IsValue (readingCode (readAnswer c h received repaired)))
@@ -238,12 +239,6 @@ zov-sheet text out =
 
 -- ---- same: 1 and 0 are values
 
-lowest-in-table : (a b : ℕ) → a ≤ greatestNumber → b ≤ greatestNumber → lowest a b ≤ greatestNumber
-unfolding lowest
-lowest-in-table zero b la lb = lb
-lowest-in-table (suc a) zero la lb = la
-lowest-in-table (suc a) (suc b) la lb = omega arith
-
 compared-small : (b : Bool) → IsValue (samenessCode (compared b))
 unfolding compared
 compared-small true = omega arith
@@ -259,5 +254,5 @@ unfolding sameAnswer sameFault
 zov-same c₁ h₁ c₂ h₂ =
     told-apart samenessCode NotCompared (compared (sameCode c₁ h₁ c₂ h₂)) (compared-apart (sameCode c₁ h₁ c₂ h₂)) same-sameness (λ k. refl)
     (lowest (codeFault true c₁ h₁) (codeFault true c₂ h₂))
-    (lowest-in-table (codeFault true c₁ h₁) (codeFault true c₂ h₂) (code-in-table c₁ h₁) (code-in-table c₂ h₂))
+    (lowest-le greatestNumber (codeFault true c₁ h₁) (codeFault true c₂ h₂) (code-in-table c₁ h₁) (code-in-table c₂ h₂))
     (λ none. compared-small (sameCode c₁ h₁ c₂ h₂))

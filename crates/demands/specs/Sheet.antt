@@ -13,7 +13,6 @@ use lib.Seq.{take-at}
 use borrow.Author.Tests.{le-leb}
 use Rattle.algebra.specs.Flags.{refuted}
 use Rattle.algebra.specs.Lists.{entryOf}
-use Rattle.algebra.specs.PlaceLaws.{count-le}
 use Rattle.algebra.specs.TabulateLaws.{getD-tabulate}
 use Rattle.refusals.specs.Answered.{counted-apart, same-counted, refused-due}
 use Rattle.refusals.specs.declared.Counted.the-variants.{Count, Refused}
@@ -30,7 +29,8 @@ use Rattle.params.specs.declared.Parameters.{Parameters}
 use Rattle.params.specs.Accepted.{accepted-pair, n-short}
 use Rattle.params.specs.Calls.{code-leaves}
 use Rattle.params.specs.Code.{Accepted, shapeRules, codeRules}
-use Rattle.parity.specs.Columns.{isMessageColumn, dimension, rolesOf, messageLength}
+use Rattle.parity.specs.Columns.{isMessageColumn, rolesOf, messageLength}
+use Rattle.parity.specs.ColumnLaws.{messageLength-le}
 use Rattle.parity.specs.Selected.{length-whole}
 use Rattle.parity.specs.Word.{whole}
 use Rattle.sheets.specs.Fault.{sheetRules}
@@ -116,19 +116,13 @@ module _ {c : Parameters} {h : List ℕ} (A : Accepted c h) where
       let wide : 2 ^ c .m ≤ 2 ^ widest = pow-mono (A .limits .width .high) in
       omega arith
 
-  few : messageLength c h ≤ c .n
-  unfolding dimension
-  few =
-      subst (λ (k : ℕ). messageLength c h ≤ k) (length-whole (c .n))
-      (count-le (length (whole (c .n))) (isMessageColumn c h (whole (c .n))))
-
   -- the numbers of the listing's first line
   pub code-line-fits : Small (c .m ∷ c .n ∷ c .t ∷ c .omega ∷ (c .n - messageLength c h) ∷ messageLength c h ∷ [])
   code-line-fits =
       let short = n-short (A .limits) in
       let high = A .limits .width .high in
       small (c .m ∷ c .n ∷ c .t ∷ c .omega ∷ (c .n - messageLength c h) ∷ messageLength c h ∷ [])
-      (omega arith, (omega arith, (omega (arith, A .limits .t-high), (element-small (A .ω-in), (omega arith, (omega (arith, few), tt))))))
+      (omega arith, (omega arith, (omega (arith, A .limits .t-high), (element-small (A .ω-in), (omega arith, (omega (arith, messageLength-le c h), tt))))))
 
   -- and those of the line of each column
   pub column-line-fits : (j : ℕ) → j < c .n

@@ -17,8 +17,8 @@ use Rattle.algebra.specs.Flags.{both-true, both-hold}
 use Rattle.algebra.specs.Tabulate.{tabulate}
 use Rattle.algebra.specs.TabulateLaws.{length-tabulate, getD-tabulate}
 use Rattle.algebra.specs.Lists.{entryOf}
-use Rattle.fields.specs.Fields.{fieldWidth, greatest, digitByte, leadByte, leadText, numberText, valueOf, numberAt, holdsAt, isNumber, joined, lineEnd, fieldText, lineText, lineLength, numbersAt, isLine}
-use Rattle.fields.specs.Fields.{Small}
+use Rattle.fields.specs.Fields.{fieldWidth, greatest, digitByte, leadByte, leadText, numberText, valueOf, numberAt, holdsAt, isNumber}
+use Rattle.fields.specs.Fields.{joined, lineEnd, fieldText, lineText, lineLength, numbersAt, isLine, Small}
 
 -- ---- numbers
 

@@ -5,8 +5,6 @@ use Prim.Native.Nat.{ℕ, _+_, _≤_}
 use native.Mathlib.Nat.{le-of-eq}
 use lib.ListN.{length, take, replicate}
 use lib.Seq.{length-take-le}
-use Rattle.algebra.specs.Places.{count}
-use Rattle.algebra.specs.PlaceLaws.{count-le}
 use Rattle.algebra.specs.Tabulate.{tabulate}
 use Rattle.slices.specs.Lengths.{longest}
 use Rattle.params.specs.declared.Parameters.{Parameters}
@@ -14,9 +12,8 @@ use Rattle.params.specs.Accepted.{n-short}
 use Rattle.params.specs.Code.{Accepted}
 use Rattle.signature.specs.Inverses.{Inverted, added}
 use Rattle.signature.proofs.Stored.{support-is}
-use Rattle.parity.specs.Selected.{length-whole}
 use Rattle.parity.specs.Word.{whole}
-use Rattle.parity.specs.Columns.{isMessageColumn, rolesOf, dimension, messageLength}
+use Rattle.parity.specs.Columns.{rolesOf, messageLength}
 use Rattle.fields.specs.Fields.{joined, lineLength}
 use Rattle.fields.specs.Written.{written, written-more, written-over}
 use Rattle.fields.specs.Over.{over}
@@ -26,13 +23,6 @@ use Rattle.lines.specs.Lengths.{length-code, length-lines}
 -- n entries of a local array
 pub n-taken : {c : Parameters} {h : List ℕ} → Accepted c h → c .n ≡ length {A = ℕ} (take (c .n) (replicate longest 0))
 n-taken {c} A = sym (length-take-le (c .n) (replicate longest 0) (n-short (A .limits)))
-
--- no more message columns than columns
-pub k-small : (c : Parameters) (h : List ℕ) → messageLength c h ≤ c .n
-unfolding dimension
-k-small c h =
-    subst (λ (k : ℕ). count (length (whole (c .n))) (isMessageColumn c h (whole (c .n))) ≤ k) (length-whole (c .n))
-    (count-le (length (whole (c .n))) (isMessageColumn c h (whole (c .n))))
 
 -- the sums that are stored are the support
 pub support-held : {c : Parameters} {h inverses : List ℕ} {k : ℕ} → Accepted c h → Inverted (c .m) h inverses → k ≡ c .n

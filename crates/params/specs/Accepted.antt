@@ -1,5 +1,5 @@
--- Laws of accepted codes: no number is due for them, and for no others; their roots and their support are a Cauchy pair; and with any other offset the
--- code is accepted too.
+-- Laws of accepted codes: no number is due for them, and for no others; their roots and their support are a Cauchy pair; and with any other offset
+-- the code is accepted too.
 use mathlib.Core.Path.{_≡_, sym, subst}
 use mathlib.Core.Bool.{Bool, true}
 use mathlib.Core.List.{List}

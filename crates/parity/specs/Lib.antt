@@ -1,6 +1,7 @@
 pub mod Word
 pub mod Columns
 pub mod Selected
+pub mod ColumnLaws
 pub mod Whole
 pub mod Parity
 pub mod Systematic

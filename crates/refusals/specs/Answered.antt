@@ -1,6 +1,6 @@
 -- What an answer says of the number that was due: a refusal tells it and leaves the buffers alone, and a value says that there was none.
 use mathlib.Core.Path.{_≡_, refl, sym}
-use mathlib.Core.Logic.{_≢_}
+use mathlib.Core.Logic.{_≢_, _⊎_, inl, inr}
 use mathlib.Core.List.{List}
 use Prim.Native.Nat.{ℕ, zero, suc}
 use native.Mathlib.Omega.{arith}
@@ -8,6 +8,13 @@ use Rattle.refusals.specs.declared.Counted.the-variants.{Count, Refused 
 use Rattle.refusals.specs.declared.Outcome.the-variants.{Done, Refused}
 use Rattle.refusals.specs.Rules.{Rule, Hold, fault, unless-refused}
 use Rattle.refusals.specs.RuleLaws.{fault-none, given}
+
+-- there is no third way to end
+pub value-or-refused : {A : Type 0} (refused : ℕ → A) (value : A) (k : ℕ)
+    → (unless-refused k refused value ≡ value) ⊎ ((j : ℕ) × (unless-refused k refused value ≡ refused j))
+unfolding unless-refused
+value-or-refused refused value zero = inl refl
+value-or-refused refused value (suc k) = inr (suc k, refl)
 
 -- for any kind of answer whose value is no refusal
 module _ {A : Type 0} (refused : ℕ → A) (value : A) (apart : (k : ℕ) → refused k ≢ value) where

@@ -3,7 +3,8 @@ use mathlib.Core.Path.{_∙_}
 use native.Mathlib.Omega.{arith}
 use Rattle.params.specs.Accepted.{n-short}
 use Rattle.params.proofs.Stored.{offset-fits}
-use Rattle.lines.proofs.Rows.{k-small, support-held, listing-written}
+use Rattle.parity.specs.ColumnLaws.{messageLength-le}
+use Rattle.lines.proofs.Rows.{support-held, listing-written}
 use borrow.Author.Needs.{needs}
 use Rattle.lines.proofs.compute_lines.Statement.{statement}
 use Rattle.lines.proofs.compute_lines.Tie as tie
@@ -30,7 +31,7 @@ put-lines-requires c κs =
         support-long = omega (arith, s .pre .1, support .code-support .kept);
         roles-long = omega (arith, s .pre .1, roles .code-roles .kept);
       },
-      omega (arith, roles .code-roles .ensures .0, k-small (s .args .c) (s .args .h .now)),
+      omega (arith, roles .code-roles .ensures .0, messageLength-le (s .args .c) (s .args .h .now)),
       s .pre .0 .2,
     )
 
