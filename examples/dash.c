@@ -10,7 +10,7 @@
 enum { M = 5, N = 16, T = 2, OMEGA = 24 };
 static const zov_elem H[N] = {12, 8, 10, 22, 26, 9, 16, 21, 14, 5, 17, 4, 30, 23, 25, 31};
 
-static const char *const GEARS[] = {"neutral", "first", "second", "third", "fourth", "fifth", "sixth"};
+static const char *const GEARS[] = {"neutral", "first", "second", "third", "fourth", "fifth", "sixth", "high neutral"};
 static const char *const LAMPS[] = {"dark", "green", "amber"};
 
 /* What is sent, and what the spark does to it: the marks of the turned places, lowest first. */
@@ -19,7 +19,7 @@ struct event {
     uint16_t turned;
 };
 static const struct event RIDE[] = {
-    {0, 1, 0x0000}, {1, 0, 0x0101}, {1, 0, 0x01C0}, {2, 0, 0x0008}, {3, 2, 0x8001}, {6, 0, 0x0000},
+    {0, 1, 0x0000}, {1, 0, 0x0101}, {1, 0, 0x01C0}, {2, 0, 0x0008}, {3, 2, 0x8001}, {6, 0, 0x0000}, {7, 1, 0x0210},
 };
 
 int main(void) {

@@ -61,7 +61,7 @@ int32_t zov_message(uint32_t m, uint32_t n, uint32_t t, uint32_t omega, const zo
 int32_t zov_repair(uint32_t m, uint32_t n, uint32_t t, uint32_t omega, const zov_elem *h, size_t h_length,
                    const uint8_t *received, size_t received_length, uint8_t *repaired, size_t repaired_length);
 
-/* Gear rows: a gear from 0 (neutral) to 6 and a lamp, 0 dark, 1 green (in neutral only) or 2 amber.
+/* Gear rows: a gear from 0 (neutral) to 7 (high neutral) and a lamp, 0 dark, 1 green (with 0 and 7 only) or 2 amber.
  *
  * zov_write_row writes the word of a row; the value is 0. Refused by 1 to 7, 12 (k below 5), 11 (no such row).
  * zov_read_row repairs the word received into `repaired` and reads the row that it carries; the value is

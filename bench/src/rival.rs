@@ -264,7 +264,7 @@ impl Code<'_> {
         self.message(&word[..n], &mut message);
         let number = (0..5).fold(0, |number, place| number | u32::from(message[place]) << place);
         let (gear, lamp) = (number % 8, number / 8);
-        if message[5..].contains(&1) || gear > 6 || lamp > 2 || lamp == 1 && gear != 0 {
+        if message[5..].contains(&1) || lamp > 2 || lamp == 1 && gear != 0 && gear != 7 {
             return None;
         }
         repaired.copy_from_slice(&word[..n]);

@@ -10,13 +10,14 @@ const H: [u8; 16] = [12, 8, 10, 22, 26, 9, 16, 21, 14, 5, 17, 4, 30, 23, 25, 31]
 const CODE: Code = Code { m: 5, n: 16, t: 2, omega: 24, h: &H };
 
 /// What is sent, and the places that the spark turns.
-const RIDE: [(Row, &[usize]); 6] = [
+const RIDE: [(Row, &[usize]); 7] = [
     (Row { gear: 0, lamp: Lamp::Green }, &[]),
     (Row { gear: 1, lamp: Lamp::Dark }, &[0, 8]),
     (Row { gear: 1, lamp: Lamp::Dark }, &[6, 7, 8]),
     (Row { gear: 2, lamp: Lamp::Dark }, &[3]),
     (Row { gear: 3, lamp: Lamp::Amber }, &[0, 15]),
     (Row { gear: 6, lamp: Lamp::Dark }, &[]),
+    (Row { gear: 7, lamp: Lamp::Green }, &[4, 9]),
 ];
 
 fn main() -> Result<(), Refusal> {

@@ -15,11 +15,11 @@ const TOY: &str = "   5  16   2  24\n  12   8  10  22  26   9  16  21  14   5  1
 
 const FIRST_DARK: Row = Row { gear: 1, lamp: Lamp::Dark };
 
-/// The allowed rows: dark and amber with every gear, green in neutral only.
+/// The allowed rows: dark and amber with every gear, green in neutral and in the high neutral only.
 fn rows() -> Vec<Row> {
     let lamps = [Lamp::Dark, Lamp::Green, Lamp::Amber];
-    let rows = (0..=6).flat_map(|gear| lamps.map(|lamp| Row { gear, lamp }));
-    rows.filter(|row| row.lamp != Lamp::Green || row.gear == 0).collect()
+    let rows = (0..=7).flat_map(|gear| lamps.map(|lamp| Row { gear, lamp }));
+    rows.filter(|row| row.lamp != Lamp::Green || row.gear == 0 || row.gear == 7).collect()
 }
 
 fn turned(word: &[u8], places: &[usize]) -> Vec<u8> {
@@ -102,11 +102,11 @@ fn show_all(code: &Code) {
             read(&[first]);
             (first + 1..n).filter(|_| doubles).for_each(|second| read(&[first, second]));
         }
-        println!("  {:<16}{right} of {words} read as sent", row.to_string());
+        println!("  {:<21}{right} of {words} read as sent", row.to_string());
         all += words;
         all_right += right;
     }
-    println!("  {:<16}{all_right} of {all} read as sent", "together");
+    println!("  {:<21}{all_right} of {all} read as sent", "together");
 }
 
 fn main() {

@@ -8,16 +8,16 @@ use core::fmt;
 pub enum Lamp {
     /// 0: no light.
     Dark = 0,
-    /// 1: allowed in neutral only.
+    /// 1: allowed in neutral and in the high neutral only.
     Green = 1,
     /// 2: allowed with every gear.
     Amber = 2,
 }
 
-/// A gear, 0 (neutral) to 6, and a lamp.
+/// A gear, 0 (neutral) to 7 (high neutral), and a lamp.
 #[derive(Clone, Copy, Debug, PartialEq, Eq, Hash)]
 pub struct Row {
-    /// 0 is neutral.
+    /// 0 is neutral, and 7 the high neutral.
     pub gear: u32,
     /// What burns beside it.
     pub lamp: Lamp,
@@ -40,7 +40,7 @@ impl Reading {
     }
 }
 
-const GEARS: [&str; 7] = ["neutral", "first", "second", "third", "fourth", "fifth", "sixth"];
+const GEARS: [&str; 8] = ["neutral", "first", "second", "third", "fourth", "fifth", "sixth", "high neutral"];
 
 /// The row whole, gear then lamp: "first, dark".
 impl fmt::Display for Row {
@@ -72,12 +72,13 @@ mod tests {
     fn rows_are_shown_whole() {
         assert_eq!(Row { gear: 1, lamp: Lamp::Dark }.to_string(), "first, dark");
         assert_eq!(Row { gear: 0, lamp: Lamp::Green }.to_string(), "neutral, green");
+        assert_eq!(Row { gear: 7, lamp: Lamp::Green }.to_string(), "high neutral, green");
         assert_eq!(Row { gear: 9, lamp: Lamp::Amber }.to_string(), "gear 9, amber");
     }
 
     #[test]
     fn readings_are_taken_apart() {
-        let reading = Reading { row: Row { gear: 6, lamp: Lamp::Amber }, count: 64 };
-        assert_eq!(Reading::of(6 + 8 * 2 + 32 * 64), reading);
+        let reading = Reading { row: Row { gear: 7, lamp: Lamp::Amber }, count: 64 };
+        assert_eq!(Reading::of(7 + 8 * 2 + 32 * 64), reading);
     }
 }

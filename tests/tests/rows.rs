@@ -12,8 +12,13 @@ use zovunelith_tests::reference::rows::{self as reference, Read, Row};
 use zovunelith_tests::reference::words::Code;
 
 /// Gears and lamps of every kind, among them ones that a cut to fewer bits would bring back in.
-const GEARS: [u32; 14] = [0, 1, 2, 3, 4, 5, 6, 7, 8, 9, 256, 256 + 1, 65536, u32::MAX];
+const GEARS: [u32; 15] = [0, 1, 2, 3, 4, 5, 6, 7, 8, 9, 256, 256 + 1, 256 + 7, 65536, u32::MAX];
 const LAMPS: [u32; 10] = [0, 1, 2, 3, 4, 8, 256, 256 + 2, 1 << 31, u32::MAX];
+
+/// Whether a gear and a lamp are a row.
+fn allowed(gear: u32, lamp: u32) -> bool {
+    gear <= 7 && (lamp == 0 || lamp == 2 || lamp == 1 && (gear == 0 || gear == 7))
+}
 
 fn numbers(params: &Params) -> (u32, u32, u32, u32) {
     (params.m, params.n, params.t, params.omega)
@@ -81,7 +86,7 @@ fn rows_and_others_written() {
             for lamp in LAMPS {
                 let expected = if code.k() < 5 {
                     Err(12)
-                } else if gear <= 6 && (lamp == 0 || lamp == 2 || lamp == 1 && gear == 0) {
+                } else if allowed(gear, lamp) {
                     written += 1;
                     Ok(code.encode(&reference::message(Row { gear, lamp }, code.k())))
                 } else {
@@ -91,23 +96,24 @@ fn rows_and_others_written() {
             }
         }
     }
-    assert!(written >= 15 * 10, "only {written} rows were written");
+    assert!(written >= 18 * 10, "only {written} rows were written");
 }
 
-/// Code T: each of the 15 rows with every choice of at most two turned places is read as it was written.
+/// Code T: each of the 24 pairs of a gear and a lamp, written, and read with every choice of at most two turned places.
+/// A pair that is no row is 11 both ways.
 #[test]
-fn rows_with_every_error_on_the_toy_example() {
-    let decoder = Decoder::new(Code::new(&code_t()));
-    for row in reference::rows() {
-        let word = decoder.code.encode(&reference::message(row, 6));
-        for one in 0..16 {
-            for other in 0..=one {
-                let places = if one == other { vec![one] } else { vec![one, other] };
-                let expected = Ok((row, word.clone(), places.len() as u32));
-                reading_gives(&code_t(), &turned(&word, &places), Lent::marked(16), &expected);
-            }
+fn pairs_with_every_error_on_the_toy_example() {
+    let code = Code::new(&code_t());
+    for row in (0..8).flat_map(|gear| (0..3).map(move |lamp| Row { gear, lamp })) {
+        let word = code.encode(&reference::message(row, 6));
+        let given = allowed(row.gear, row.lamp).then_some(()).ok_or(11);
+        writing_gives(&code_t(), row.gear, row.lamp, 16, &given.map(|()| word.clone()));
+        let singles = (0..16).map(|one| vec![one]);
+        let doubles = (0..16).flat_map(|one| (0..one).map(move |other| vec![other, one]));
+        for places in [vec![]].into_iter().chain(singles).chain(doubles) {
+            let expected = given.map(|()| (row, word.clone(), places.len() as u32));
+            reading_gives(&code_t(), &turned(&word, &places), Lent::marked(16), &expected);
         }
-        reading_gives(&code_t(), &word, Lent::marked(16), &Ok((row, word.clone(), 0)));
     }
 }
 
@@ -118,8 +124,7 @@ fn all_messages_of_the_toy_example() {
     let decoder = Decoder::new(Code::new(&code_t()));
     for number in 0..64_u8 {
         let message: Vec<u8> = (0..6).map(|place| number >> place & 1).collect();
-        let (gear, lamp, further) = (number & 7, number >> 3 & 3, number >> 5);
-        let allowed = gear <= 6 && further == 0 && (lamp == 0 || lamp == 2 || lamp == 1 && gear == 0);
+        let allowed = allowed(u32::from(number & 7), u32::from(number >> 3 & 3)) && number >> 5 == 0;
         let word = decoder.code.encode(&message);
         for weight in 0..=16 {
             for _ in 0..4 {
@@ -161,7 +166,7 @@ fn rows_of_every_shape() {
     assert!(shapes >= 15, "only {shapes} shapes were wide enough");
 }
 
-/// Messages that are no rows: gear 7, lamp 3, green away from neutral, a further bit at each place.
+/// Messages that are no rows: lamp 3, green away from both neutrals, a further bit at each place.
 #[test]
 fn messages_that_are_no_rows() {
     let mut random = Random::new(604);
@@ -185,7 +190,7 @@ fn messages_that_are_no_rows() {
             message[place] = 1;
             messages.push(message);
         }
-        assert_eq!(messages.len(), 17 + k - 5);
+        assert_eq!(messages.len(), 14 + k - 5);
         for message in messages {
             let weight = random.below(t as usize + 1);
             let received = turned(&decoder.code.encode(&message), &random.places(decoder.code.n(), weight));
@@ -282,7 +287,7 @@ fn faults_together() {
                 };
 
                 // Writing: the last fault is a row that is none.
-                let (gear, lamp) = if last { (random.pick(&[7, 8, 256]), 1) } else { (0, 1) };
+                let (gear, lamp) = if last { (random.pick(&[6, 8, 256 + 7]), 1) } else { (0, 1) };
                 let lent = if length { wrong } else { right };
                 let expected = reference::write(&params, gear, lamp, lent);
                 let number = of_code(length).or(last.then_some(11));

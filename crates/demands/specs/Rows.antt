@@ -1,5 +1,6 @@
--- Gear rows: what is written is read as it was written, with up to t bits turned; and 11 is for a word that carries no row.
-use mathlib.Core.Path.{_≡_, refl, sym, ap, _∙_}
+-- Gear rows: which are written; what is written is read as it was written, with up to t bits turned; 11 is for a word that carries no row, and what
+-- the high neutral brings.
+use mathlib.Core.Path.{_≡_, refl, sym, ap, ap₂, _∙_}
 use mathlib.Core.Logic.{_≢_, _↔_}
 use mathlib.Core.Bool.{Bool, true, false, false≢true}
 use mathlib.Core.List.{List, [], _∷_}
@@ -10,7 +11,8 @@ use borrow.Author.Tests.{eq-eqb, le-leb}
 use Rattle.algebra.specs.Flags.{both-true, both-hold, refuted}
 use Rattle.algebra.specs.Lists.{entryOf}
 use Rattle.algebra.specs.PlaceLaws.{length-chosen}
-use Rattle.refusals.specs.declared.Outcome.the-variants.{Done}
+use Rattle.refusals.specs.Answered.{done-apart}
+use Rattle.refusals.specs.declared.Outcome.the-variants.{Done, Refused as NotWritten}
 use Rattle.refusals.specs.Rules.{_unless_, fault}
 use Rattle.refusals.specs.RuleLaws.{fault-here, fault-past, fault-empty, refuse, given}
 use Rattle.slices.specs.Bits.{Bits, IsBits}
@@ -25,13 +27,18 @@ use Rattle.nearest.specs.Demand.{repaired-code-word}
 use Rattle.nearest.specs.Repair.{distance, isRepairable, repairedOf}
 use Rattle.repair.specs.declared.Recovery.the-variants.{Repaired}
 use Rattle.repair.specs.Answers.{wordRules, turnedCount, repairAnswer, repairAfter}
-use Rattle.gears.specs.Rows.{isRow, rowBits, rowMessage, gearIn, lampIn, furtherZero, isRowMessage, rowOf}
-use Rattle.gears.specs.Messages.{message-is-row, message-only}
+use Rattle.gears.specs.Allowed.{Allowed}
+use Rattle.gears.specs.RowLaws.{row-exactly}
+use Rattle.gears.specs.Rows.{highNeutral, isRow, rowBits, rowMessage, gearIn, lampIn, furtherZero, isRowMessage, rowOf}
+use Rattle.gears.specs.Messages.{message-is-row, message-only, high-message}
 use Rattle.rows.specs.declared.Reading.the-variants.{Read, Refused}
-use Rattle.rows.specs.Answers.{writeAnswer, writeAfter, carried, readRules, rowRead, readFault, readAnswer, readAfter}
+use Rattle.rows.specs.Answers.{writeRules, writeFault, writeAnswer, writeAfter, carried, readRules, rowRead, readFault, readAnswer, readAfter}
 use Rattle.rows.specs.Laws.{chosen-bits, row-written, turned-read, turned-repaired}
 use Rattle.demands.specs.CodeWords.{bits-on}
 use Rattle.demands.specs.Demand3.{repaired-ends, refused-ends}
+
+same-count : (a b : ℕ) → Repaired a ≡ Repaired b → a ≡ b
+same-count a b e = cc
 
 -- an accepted code with room for a row
 module _ {c : Parameters} {h : List ℕ} (A : Accepted c h) (wide : rowBits ≤ messageLength c h) where
@@ -50,6 +57,30 @@ module _ {c : Parameters} {h : List ℕ} (A : Accepted c h) (wide : rowBits ≤ 
       turned-repaired A wide gear lamp allowed word lent bits repaired lent′ near,
     ),
   )
+
+  -- "green is allowed with 0 and with 7. Dark and amber still go with all": these rows are written, and any other gear and lamp are 11.
+  pub written-exactly : (gear lamp : ℕ) (word : List ℕ) → length word ≡ c .n
+      → ((writeAnswer c h gear lamp word ≡ Done) ↔ Allowed gear lamp) × ((writeAnswer c h gear lamp word ≡ NotWritten 11) ↔ (Allowed gear lamp → ⊥))
+  unfolding writeAnswer writeFault writeRules
+  written-exactly gear lamp word lent = decided (isRow gear lamp) refl
+    where
+      past : writeFault c h gear lamp word ≡ fault ((11 unless isRow gear lamp) ∷ [])
+      past =
+          code-leaves A (eq-eqb (length word) (c .n) lent) (writeRules c h (whole (c .n)) gear lamp)
+          ∙ fault-past 12 _ (le-leb rowBits (messageLength c h) wide) refl
+
+      decided : (b : Bool) → isRow gear lamp ≡ b
+          → ((writeAnswer c h gear lamp word ≡ Done) ↔ Allowed gear lamp)
+          × ((writeAnswer c h gear lamp word ≡ NotWritten 11) ↔ (Allowed gear lamp → ⊥))
+      decided true e =
+          let done : writeAnswer c h gear lamp word ≡ Done = given NotWritten Done (past ∙ fault-past 11 [] e fault-empty) in
+          let allowed = row-exactly gear lamp .0 e in
+          ((λ d. allowed, λ r. done), (λ refused. absurd (done-apart 11 (sym refused ∙ done)), λ none. absurd (none allowed)))
+      decided false e =
+          let refused : writeAnswer c h gear lamp word ≡ NotWritten 11 =
+          sym (refuse {k = 11} NotWritten Done (sym (past ∙ fault-here 11 [] e)) (λ z. omega arith)) in
+          let none : Allowed gear lamp → ⊥ = λ r. false≢true (sym e ∙ row-exactly gear lamp .1 r) in
+          ((λ done. absurd (done-apart 11 (sym refused ∙ done)), λ r. absurd (none r)), (λ n. none, λ n. refused))
 
   module _ {received : List ℕ} (bits : IsBits (c .n) received) (repaired : List ℕ) (lent : length repaired ≡ c .n) where
     -- past 12 and 8 there is 10, and then 11
@@ -81,10 +112,16 @@ module _ {c : Parameters} {h : List ℕ} (A : Accepted c h) (wide : rowBits ≤ 
       unfolding readAnswer
       no-row is = sym (refuse {k = 11} Refused _ (sym (fault-is ∙ fault-past 10 _ e (fault-here 11 [] is))) (λ z. omega arith))
 
-      a-row : isRowMessage (carried c h (whole (c .n)) received) ≡ true → readAnswer c h received repaired ≢ Refused 11
+      a-row : isRowMessage (carried c h (whole (c .n)) received) ≡ true
+          → readAnswer c h received repaired
+          ≡ Read (rowOf (gearIn (carried c h (whole (c .n)) received)) (lampIn (carried c h (whole (c .n)) received)))
+          (turnedCount c h (whole (c .n)) received)
       unfolding readAnswer rowRead
-      a-row is refused =
-          let read = sym refused ∙ given Refused _ (fault-is ∙ fault-past 10 _ e (fault-past 11 [] is fault-empty)) in
+      a-row is = given Refused _ (fault-is ∙ fault-past 10 _ e (fault-past 11 [] is fault-empty))
+
+      not-none : isRowMessage (carried c h (whole (c .n)) received) ≡ true → readAnswer c h received repaired ≢ Refused 11
+      not-none is refused =
+          let read = sym refused ∙ a-row is in
           let z : _≡_ {A = ℕ} 0 1 = cc in absurd (omega arith)
 
       -- the message of no allowed row
@@ -108,6 +145,15 @@ module _ {c : Parameters} {h : List ℕ} (A : Accepted c h) (wide : rowBits ≤ 
         let far = refuse {k = 10} Refused _ (sym (fault-is ∙ fault-here 10 _ e)) (λ z. omega arith) ∙ refused in
         let same : _≡_ {A = ℕ} 10 11 = cc in absurd (omega arith)
 
+    repairable-by : {count : ℕ} → repairAnswer c h received repaired ≡ Repaired count → isRepairable c h (whole (c .n)) received ≡ true
+    repairable-by done = decided (isRepairable c h (whole (c .n)) received) refl
+      where
+        decided : (b : Bool) → isRepairable c h (whole (c .n)) received ≡ b → isRepairable c h (whole (c .n)) received ≡ true
+        decided true e = e
+        decided false e =
+            let both = sym done ∙ refused-ends A bits repaired lent e .0 in
+            let z : _≡_ {A = ℕ} 0 1 = cc in absurd (omega arith)
+
     -- 11 is given exactly if the word is repaired and its message is that of no allowed row
     pub no-row-exactly : (readAnswer c h received repaired ≡ Refused 11)
         ↔ ((count : ℕ) × (repairAnswer c h received repaired ≡ Repaired count)
@@ -124,13 +170,30 @@ module _ {c : Parameters} {h : List ℕ} (A : Accepted c h) (wide : rowBits ≤ 
           λ refused. (
             turnedCount c h (whole (c .n)) received,
             repaired-ends A bits repaired lent e .0,
-            none-exactly e .0 (refuted (isRowMessage (carried c h (whole (c .n)) received)) (λ is. a-row e is refused)),
+            none-exactly e .0 (refuted (isRowMessage (carried c h (whole (c .n)) received)) (λ is. not-none e is refused)),
           ),
           λ none. no-row e (none-exactly e .1 (none .2)),
         )
         decided false e = (
           λ refused. absurd (far-by e refused),
-          λ none.
-              let both = sym (none .1) ∙ refused-ends A bits repaired lent e .0 in
-              let z : _≡_ {A = ℕ} 0 1 = cc in absurd (omega arith),
+          λ none. absurd (false≢true (sym e ∙ repairable-by (none .1))),
+        )
+
+    -- the message of what repair leaves in the buffer
+    abbrev pub repairedMessage : List ℕ
+    repairedMessage = messageOf c h (whole (c .n)) (repairAfter c h received repaired)
+
+    -- "A message with gear 7, a lamp of 0 to 2 and further bits 0 … is now read; any other with 7 still brings 11."
+    pub high-neutral : {count : ℕ} → repairAnswer c h received repaired ≡ Repaired count → gearIn repairedMessage ≡ highNeutral
+        → ((lampIn repairedMessage ≤ 2) × (furtherZero repairedMessage ≡ true)
+        → readAnswer c h received repaired ≡ Read (rowOf highNeutral (lampIn repairedMessage)) count)
+        × (((lampIn repairedMessage ≤ 2) × (furtherZero repairedMessage ≡ true) → ⊥) → readAnswer c h received repaired ≡ Refused 11)
+    high-neutral done high =
+        let e = repairable-by done in
+        let same : repairedMessage ≡ carried c h (whole (c .n)) received = message-is e in (
+          λ row.
+              a-row e (ap isRowMessage (sym same) ∙ high-message repairedMessage high .1 row)
+              ∙ ap₂ Read (ap₂ rowOf (ap gearIn (sym same) ∙ high) (ap lampIn (sym same)))
+              (same-count _ _ (sym (repaired-ends A bits repaired lent e .0) ∙ done)),
+          λ none. no-row e (ap isRowMessage (sym same) ∙ refuted (isRowMessage repairedMessage) (λ t. none (high-message repairedMessage high .0 t))),
         )

@@ -1,4 +1,7 @@
-// 01's cases that are executed: the toy example, which is its card T, and the limits. What this prints is compared with the stored output.
+// The cases that are executed: the toy example, which is 01's card T, every pair of a gear and a lamp on it, and the limits. What this prints is
+// compared with the stored output.
+mod pairs;
+
 use field::Elem;
 use io::print_decimal;
 use libc::STDOUT_FILENO;
@@ -88,17 +91,24 @@ fn show_repair(received: &[u8]) {
     print_recovery(recovery, &repaired);
 }
 
+// The word with one place turned; past the end there is none to turn.
+fn turned(word: [u8; 16], place: usize) -> [u8; 16] {
+    let mut received = word;
+    if place < 16 {
+        let bit = received[place];
+        received[place] = 1 - bit % 2;
+    }
+    received
+}
+
 fn show_row() {
     let mut word: [u8; 16] = [0; 16];
     rows::write_row(toy(), &TOY, 1, 0, &mut word);
     print(b"first, dark: ones at");
     print_ones(&word);
-    let first = word[0];
-    let ninth = word[8];
-    word[0] = 1 - first % 2;
-    word[8] = 1 - ninth % 2;
+    let received = turned(turned(word, 0), 8);
     print(b"with 0 and 8 turned:");
-    show_repair(&word);
+    show_repair(&received);
     let mut far: [u8; 16] = [0; 16];
     far[1] = 1;
     far[2] = 1;
@@ -161,6 +171,7 @@ fn show_empty_message() {
 fn main() {
     show_toy();
     show_row();
+    pairs::show_pairs();
     show_width(1);
     show_width(2);
     show_width(8);

@@ -1,2 +1,4 @@
+pub mod Allowed
 pub mod Messages
+pub mod RowLaws
 pub mod Rows

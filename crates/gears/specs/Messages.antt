@@ -1,6 +1,7 @@
--- A row and its message: the message of an allowed row says that row, and is the only one that does.
+-- A row and its message: the message of an allowed row says that row, and is the only one that does; and which messages say the high neutral.
 use mathlib.Core.Path.{_≡_, refl, sym, ap, ap₂, _∙_, subst}
-use mathlib.Core.Bool.{Bool, true, false, cond, _||_, false≢true}
+use mathlib.Core.Logic.{_↔_}
+use mathlib.Core.Bool.{Bool, true, false, cond, _||_}
 use mathlib.Core.List.{List}
 use Prim.Native.Nat.{ℕ, zero, suc, _+_, _-_, _*_, _<_, _≤_}
 use native.Mathlib.Decide.{decLt}
@@ -8,7 +9,7 @@ use native.Mathlib.Omega.{arith}
 use lib.Dec.{eqb, ltb, lit<}
 use lib.ListN.{length}
 use lib.Seq.{ext-getD}
-use borrow.Author.Tests.{eqb-true, leb-true, lt-ltb, le-ltb}
+use borrow.Author.Tests.{eqb-true, lt-ltb, le-ltb}
 use Rattle.algebra.specs.AllLaws.{all-is, all-true}
 use Rattle.algebra.specs.Flags.{both-true, both-hold}
 use Rattle.algebra.specs.Bits.{bitAt}
@@ -17,23 +18,17 @@ use Rattle.algebra.specs.Lists.{entryOf}
 use Rattle.algebra.specs.TabulateLaws.{length-tabulate, getD-tabulate}
 use Rattle.slices.specs.Bits.{Bits}
 use Rattle.slices.specs.BitLaws.{bits-anywhere}
-use Rattle.gears.specs.Rows.{isRow, gearBits, rowBits, rowBit, rowMessage, gearIn, lampIn, furtherZero, isRowMessage, lampOf, lampNumber}
+use Rattle.gears.specs.RowLaws.{allowed-gear, allowed-lamp, high-allowed, row-exactly}
+use Rattle.gears.specs.Rows.{highNeutral, isRow, gearBits, rowBits, rowBit, rowMessage}
+use Rattle.gears.specs.Rows.{gearIn, lampIn, furtherZero, isRowMessage, lampOf, lampNumber}
 
 -- ---- an allowed row fits into its bits
 
 pub row-gear : (gear lamp : ℕ) → isRow gear lamp ≡ true → gear < 8
-unfolding isRow
-row-gear gear zero e = omega (arith, leb-true gear 6 e)
-row-gear gear (suc zero) e = omega (arith, eqb-true gear 0 e)
-row-gear gear (suc (suc zero)) e = omega (arith, leb-true gear 6 e)
-row-gear gear (suc (suc (suc lamp))) e = absurd (false≢true e)
+row-gear gear lamp e = allowed-gear (row-exactly gear lamp .0 e)
 
 pub row-lamp : (gear lamp : ℕ) → isRow gear lamp ≡ true → lamp < 3
-unfolding isRow
-row-lamp gear zero e = lit< tt
-row-lamp gear (suc zero) e = lit< tt
-row-lamp gear (suc (suc zero)) e = lit< tt
-row-lamp gear (suc (suc (suc lamp))) e = absurd (false≢true e)
+row-lamp gear lamp e = allowed-lamp (row-exactly gear lamp .0 e)
 
 -- the three lamps are told apart
 pub lamp-number : (lamp : ℕ) → lamp < 3 → lampNumber (lampOf lamp) ≡ lamp
@@ -148,3 +143,15 @@ module _ (w : List ℕ) (bits : Bits w) where
           (ap (λ (b : Bool). b || eqb (entryOf w j) 0) (sym (le-ltb j rowBits far))
           ∙ all-is (length w) (λ j. ltb j rowBits || eqb (entryOf w j) 0)
           (both-true (isRow (gearIn w) (lampIn w)) (furtherZero w) e .1) j l)
+
+-- ---- the high neutral
+
+-- "A message with gear 7, a lamp of 0 to 2 and further bits 0" is one of an allowed row, and "any other with 7" is not.
+pub high-message : (w : List ℕ) → gearIn w ≡ highNeutral → (isRowMessage w ≡ true) ↔ ((lampIn w ≤ 2) × (furtherZero w ≡ true))
+unfolding isRowMessage
+high-message w high = (
+  λ t.
+      let (row, further) = both-true (isRow (gearIn w) (lampIn w)) (furtherZero w) t in
+      let lamp : lampIn w < 3 = row-lamp (gearIn w) (lampIn w) row in (omega arith, further),
+  λ r. both-hold (ap (λ (gear : ℕ). isRow gear (lampIn w)) high ∙ row-exactly highNeutral (lampIn w) .1 (high-allowed (lampIn w) (r .0))) (r .1),
+)

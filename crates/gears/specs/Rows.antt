@@ -12,12 +12,18 @@ use Rattle.gears.specs.declared.Lamp.{Lamp}
 use Rattle.gears.specs.declared.Lamp.the-variants.{Dark, Green, Amber}
 use Rattle.gears.specs.declared.Row.{Row}
 
--- The allowed rows, by the lamp: "a gear, 0 (neutral) to 6, and a lamp: 0 dark, 1 green, 2 amber. Green is allowed with gear 0 only; dark and amber
--- go with every gear."
+-- Gears are the positions of the gearbox, from neutral to the high neutral: "positions are now 0 to 7, 7 is the high neutral".
+abbrev pub neutral : ℕ
+neutral = 0
+
+abbrev pub highNeutral : ℕ
+highNeutral = 7
+
+-- The allowed rows, by the lamp, "0 dark, 1 green, 2 amber": "green is allowed with 0 and with 7. Dark and amber still go with all."
 unfoldable pub isRow : ℕ → ℕ → Bool
-isRow gear zero = leb gear 6
-isRow gear (suc zero) = eqb gear 0
-isRow gear (suc (suc zero)) = leb gear 6
+isRow gear zero = leb gear highNeutral
+isRow gear (suc zero) = eqb gear neutral || eqb gear highNeutral
+isRow gear (suc (suc zero)) = leb gear highNeutral
 isRow gear (suc (suc (suc lamp))) = false
 
 -- the message bits of a gear, and those of a gear and a lamp: "A row needs k of at least 5."

@@ -12,11 +12,16 @@ pub enum Lamp {
     Amber,
 }
 
-// A gear, 0 being neutral, and a lamp.
+// A gear, from neutral to the high neutral, and a lamp.
 pub struct Row {
     pub gear: u32,
     pub lamp: Lamp,
 }
+
+// The positions of the gearbox go from neutral to the high neutral, which lies between the top two ratios.
+const NEUTRAL: u32 = 0;
+
+const HIGH_NEUTRAL: u32 = 7;
 
 const GEAR_BITS: usize = 3;
 
@@ -28,8 +33,8 @@ pub fn is_row(gear: u32, lamp: u32) -> bool
     ensures { λ r. ⌜ r ≡ isRow gear lamp ⌝ }
 {
     match lamp {
-        0 | 2 => gear <= 6,
-        1 => gear == 0,
+        0 | 2 => gear <= HIGH_NEUTRAL,
+        1 => (gear == NEUTRAL) | (gear == HIGH_NEUTRAL),
         _ => false,
     }
 }

@@ -7,17 +7,17 @@ use super::words::{self, Code};
 /// The fewest message columns that hold a row: three bits of gear and two of lamp.
 pub const BITS: usize = 5;
 
-/// A gear, 0 being neutral, and a lamp: 0 dark, 1 green, 2 amber.
+/// A gear, 0 being neutral and 7 the high neutral, and a lamp: 0 dark, 1 green, 2 amber.
 #[derive(Clone, Copy, Debug, PartialEq)]
 pub struct Row {
     pub gear: u32,
     pub lamp: u32,
 }
 
-/// The allowed rows: dark and amber with every gear, green in neutral only.
+/// The allowed rows: dark and amber with every gear, green in neutral and in the high neutral only.
 pub fn rows() -> Vec<Row> {
-    let mut rows = vec![Row { gear: 0, lamp: 1 }];
-    for gear in 0..=6 {
+    let mut rows = vec![Row { gear: 0, lamp: 1 }, Row { gear: 7, lamp: 1 }];
+    for gear in 0..=7 {
         rows.extend([Row { gear, lamp: 0 }, Row { gear, lamp: 2 }]);
     }
     rows
@@ -90,11 +90,11 @@ mod tests {
     }
 
     #[test]
-    fn fifteen_rows_are_allowed() {
-        assert_eq!(rows().len(), 15);
+    fn eighteen_rows_are_allowed() {
+        assert_eq!(rows().len(), 18);
         for gear in 0..16 {
             for lamp in 0..8 {
-                let allowed = gear <= 6 && (lamp == 0 || lamp == 2 || (lamp == 1 && gear == 0));
+                let allowed = gear <= 7 && (lamp == 0 || lamp == 2 || (lamp == 1 && (gear == 0 || gear == 7)));
                 assert_eq!(rows().contains(&Row { gear, lamp }), allowed, "gear {gear}, lamp {lamp}");
                 assert_eq!(write(&code_t(), gear, lamp, 16).err(), (!allowed).then_some(11));
             }
@@ -105,9 +105,10 @@ mod tests {
     fn bits_of_a_message() {
         assert_eq!(message(Row { gear: 6, lamp: 2 }, 7), [0, 1, 1, 0, 1, 0, 0]);
         assert_eq!(message(Row { gear: 0, lamp: 1 }, 5), [0, 0, 0, 1, 0]);
+        assert_eq!(message(Row { gear: 7, lamp: 1 }, 6), [1, 1, 1, 1, 0, 0]);
     }
 
-    /// Of code T's 64 messages, 15 are rows.
+    /// Of code T's 64 messages, 18 are rows.
     #[test]
     fn every_message_of_the_toy_example() {
         let decoder = Decoder::new(Code::new(&code_t()));
@@ -125,7 +126,7 @@ mod tests {
                 Err(number) => assert_eq!(number, 11),
             }
         }
-        assert_eq!(read, 15);
+        assert_eq!(read, 18);
     }
 
     #[test]
@@ -135,7 +136,7 @@ mod tests {
         assert_eq!(write(&Params { t: 3, ..code_a() }, 9, 9, 4), Err(7));
         assert_eq!(read(&code_t(), &[2; 16], 16), Err(8));
         assert_eq!(read(&code_t(), &[2; 16], 15), Err(2));
-        assert_eq!(write(&code_t(), 7, 0, 16), Err(11));
-        assert_eq!(write(&code_t(), 7, 0, 17), Err(2));
+        assert_eq!(write(&code_t(), 8, 0, 16), Err(11));
+        assert_eq!(write(&code_t(), 8, 0, 17), Err(2));
     }
 }

@@ -4,11 +4,11 @@ use mathlib.Core.Logic.{_⊎_, inl, inr}
 use mathlib.Core.Bool.{false}
 use Prim.Native.Nat.{ℕ, zero, suc}
 use lib.Dec.{leb}
-use Rattle.gears.specs.Rows.{isRow}
+use Rattle.gears.specs.Rows.{highNeutral, isRow}
 use Rattle.gears.proofs.is_row.Statement.{statement}
 use Rattle.gears.proofs.is_row.Tie as tie
 
-every : (gear lamp : ℕ) → (lamp ≡ 0) ⊎ (lamp ≡ 2) → leb gear 6 ≡ isRow gear lamp
+every : (gear lamp : ℕ) → (lamp ≡ 0) ⊎ (lamp ≡ 2) → leb gear highNeutral ≡ isRow gear lamp
 unfolding isRow
 every gear lamp (inl e) = ap (λ (l : ℕ). isRow gear l) (sym e)
 every gear lamp (inr e) = ap (λ (l : ℕ). isRow gear l) (sym e)
