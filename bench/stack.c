@@ -10,13 +10,19 @@
 #include <string.h>
 #include "zovunelith.h"
 
-enum { M = 8, N = 128, T = 8, STACK = 1 << 17, PAINT = 0xA5, MARGIN = 96 };
+enum { M = 8, N = 128, T = 8, CHOSEN = 12, LENGTH = CHOSEN * T, STACK = 1 << 17, PAINT = 0xA5, MARGIN = 96 };
 
 static zov_elem h[N], roots[N], support[N], block[N], syndrome[T];
 static uint8_t roles[N], message[N], word[N], received[N], repaired[N];
 static char text[2048], listing[4096];
 static size_t text_length;
 static int k;
+
+/* A selection of CHOSEN blocks, its number of message columns, and a row's word with T bits turned. */
+static uint32_t blocks[CHOSEN], shifts[CHOSEN];
+static int selected_k;
+static uint8_t selected_received[LENGTH];
+#define SELECTION M, N, T, 0, h, N, blocks, CHOSEN, shifts, CHOSEN
 
 static int32_t field_sum(void) { return zov_field_sum(M, 3, 5); }
 static int32_t field_product(void) { return zov_field_product(M, 3, 5); }
@@ -33,6 +39,19 @@ static int32_t word_message(void) { return zov_message(M, N, T, 0, h, N, word, N
 static int32_t repair(void) { return zov_repair(M, N, T, 0, h, N, received, N, repaired, N); }
 static int32_t write_row(void) { return zov_write_row(M, N, T, 0, h, N, 1, 0, word, N); }
 static int32_t read_row(void) { return zov_read_row(M, N, T, 0, h, N, received, N, repaired, N); }
+static int32_t selection_roles(void) { return zov_selection_roles(SELECTION, roles, LENGTH); }
+static int32_t selection_syndrome(void) {
+    return zov_selection_syndrome(SELECTION, selected_received, LENGTH, syndrome, T);
+}
+static int32_t selection_encode(void) { return zov_selection_encode(SELECTION, message, selected_k, word, LENGTH); }
+static int32_t selection_message(void) { return zov_selection_message(SELECTION, word, LENGTH, message, selected_k); }
+static int32_t selection_repair(void) {
+    return zov_selection_repair(SELECTION, selected_received, LENGTH, repaired, LENGTH);
+}
+static int32_t selection_write_row(void) { return zov_selection_write_row(SELECTION, 1, 0, word, LENGTH); }
+static int32_t selection_read_row(void) {
+    return zov_selection_read_row(SELECTION, selected_received, LENGTH, repaired, LENGTH);
+}
 static int32_t sheet(void) {
     return zov_sheet((const uint8_t *)text, text_length, (uint8_t *)listing, sizeof listing);
 }
@@ -46,6 +65,13 @@ static const struct call {
     {"zov_check", check},             {"zov_same", same},                   {"zov_roles", code_roles},
     {"zov_syndrome", word_syndrome},  {"zov_encode", encode},               {"zov_message", word_message},
     {"zov_repair", repair},           {"zov_write_row", write_row},         {"zov_read_row", read_row},
+    {"zov_selection_roles", selection_roles},
+    {"zov_selection_syndrome", selection_syndrome},
+    {"zov_selection_encode", selection_encode},
+    {"zov_selection_message", selection_message},
+    {"zov_selection_repair", selection_repair},
+    {"zov_selection_write_row", selection_write_row},
+    {"zov_selection_read_row", selection_read_row},
     {"zov_sheet", sheet},
 };
 
@@ -90,6 +116,15 @@ static size_t used(const struct call *call) {
 int main(void) {
     for (int i = 0; i < N; i++)
         h[i] = (zov_elem)zov_field_inverse(M, 128 ^ i); /* 1/h_i is i with its top bit set: an accepted signature */
+    for (int i = 0; i < CHOSEN; i++) {
+        blocks[i] = N / T - 1 - i;
+        shifts[i] = i % T;
+    }
+    selected_k = selection_roles();
+    selection_write_row();
+    memcpy(selected_received, word, LENGTH);
+    for (int i = 0; i < T; i++)
+        selected_received[i * CHOSEN] ^= 1;
     k = code_roles();
     write_row();
     memcpy(received, word, N);

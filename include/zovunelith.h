@@ -71,6 +71,43 @@ int32_t zov_write_row(uint32_t m, uint32_t n, uint32_t t, uint32_t omega, const 
 int32_t zov_read_row(uint32_t m, uint32_t n, uint32_t t, uint32_t omega, const zov_elem *h, size_t h_length,
                      const uint8_t *received, size_t received_length, uint8_t *repaired, size_t repaired_length);
 
+/* Selections: words over some blocks of a code, a block being t columns in a row. `blocks` names 1 to n / t blocks, by
+ * numbers below n / t, in any order and each at most once; `shifts` has a number below t for each of them. Place
+ * b * t + r of a word is column blocks[b] * t + (r XOR shifts[b]) of the code, and a word has blocks_length * t bytes.
+ * Message columns and k are those of the chosen columns: one is a message column if it is a sum of columns at places
+ * before it. The rest of the parameters and the value are those of the function of that name for the whole code.
+ *
+ * Refused by 1 to 7 for the code and the length of a syndrome (t), then by 2 (blocks_length, shifts_length, the length
+ * of a word), 14 (a block of n / t or more, or one named twice) and 15 (a shift of t or more), then by what refuses the
+ * function for the whole code after these: 2 (a message of another length than k), 12, 8, 10, 11. */
+int32_t zov_selection_roles(uint32_t m, uint32_t n, uint32_t t, uint32_t omega, const zov_elem *h, size_t h_length,
+                            const uint32_t *blocks, size_t blocks_length, const uint32_t *shifts, size_t shifts_length,
+                            uint8_t *roles, size_t roles_length);
+int32_t zov_selection_syndrome(uint32_t m, uint32_t n, uint32_t t, uint32_t omega, const zov_elem *h, size_t h_length,
+                               const uint32_t *blocks, size_t blocks_length,
+                               const uint32_t *shifts, size_t shifts_length,
+                               const uint8_t *word, size_t word_length, zov_elem *out, size_t out_length);
+int32_t zov_selection_encode(uint32_t m, uint32_t n, uint32_t t, uint32_t omega, const zov_elem *h, size_t h_length,
+                             const uint32_t *blocks, size_t blocks_length, const uint32_t *shifts, size_t shifts_length,
+                             const uint8_t *message, size_t message_length, uint8_t *word, size_t word_length);
+int32_t zov_selection_message(uint32_t m, uint32_t n, uint32_t t, uint32_t omega, const zov_elem *h, size_t h_length,
+                              const uint32_t *blocks, size_t blocks_length,
+                              const uint32_t *shifts, size_t shifts_length,
+                              const uint8_t *word, size_t word_length, uint8_t *message, size_t message_length);
+int32_t zov_selection_repair(uint32_t m, uint32_t n, uint32_t t, uint32_t omega, const zov_elem *h, size_t h_length,
+                             const uint32_t *blocks, size_t blocks_length, const uint32_t *shifts, size_t shifts_length,
+                             const uint8_t *received, size_t received_length,
+                             uint8_t *repaired, size_t repaired_length);
+int32_t zov_selection_write_row(uint32_t m, uint32_t n, uint32_t t, uint32_t omega, const zov_elem *h, size_t h_length,
+                                const uint32_t *blocks, size_t blocks_length,
+                                const uint32_t *shifts, size_t shifts_length,
+                                uint32_t gear, uint32_t lamp, uint8_t *word, size_t word_length);
+int32_t zov_selection_read_row(uint32_t m, uint32_t n, uint32_t t, uint32_t omega, const zov_elem *h, size_t h_length,
+                               const uint32_t *blocks, size_t blocks_length,
+                               const uint32_t *shifts, size_t shifts_length,
+                               const uint8_t *received, size_t received_length,
+                               uint8_t *repaired, size_t repaired_length);
+
 /* The bench sheet: a code as text of two lines, each number in four columns. The listing of that code goes to the front
  * of `out`; the value is its length, at most 2201. Refused by 13 (no sheet), 1 to 7 (its code), 2 (no room in `out`). */
 int32_t zov_sheet(const uint8_t *text, size_t text_length, uint8_t *out, size_t out_length);

@@ -9,12 +9,12 @@ use std::env;
 use std::hint::black_box;
 use std::process::{exit, Command};
 use std::time::Instant;
-use zovunelith::{block, field, sheet, Code, Lamp, Row};
+use zovunelith::{block, field, sheet, Code, Lamp, Row, Selection};
 
 /// m, n and t.
 const SHAPES: [(u32, u32, u32); 4] = [(5, 16, 2), (8, 64, 4), (8, 128, 8), (8, 128, 64)];
 
-const CALLS: [&str; 16] = [
+const CALLS: [&str; 23] = [
     "field sum",
     "field product",
     "field inverse",
@@ -30,6 +30,13 @@ const CALLS: [&str; 16] = [
     "repair",
     "write row",
     "read row",
+    "selection roles",
+    "selection syndrome",
+    "selection encode",
+    "selection message",
+    "selection repair",
+    "selection write row",
+    "selection read row",
     "sheet",
 ];
 
@@ -42,6 +49,14 @@ impl Random {
     fn below(&mut self, bound: usize) -> usize {
         self.0 = self.0.wrapping_mul(6364136223846793005).wrapping_add(1442695040888963407);
         (self.0 >> 33) as usize % bound
+    }
+
+    /// `count` different numbers below `length`.
+    fn choice(&mut self, length: usize, count: usize) -> Vec<usize> {
+        let mut all: Vec<usize> = (0..length).collect();
+        (0..count).for_each(|taken| all.swap(taken, taken + self.below(length - taken)));
+        all.truncate(count);
+        all
     }
 }
 
@@ -68,21 +83,132 @@ fn keep<T>(value: T) {
     black_box(value);
 }
 
-/// What the calls are given at a shape: a code, a message, its word, and the word with t places turned.
+/// What the calls on words are given: a message, its word, and the word with t places turned.
+struct Words {
+    length: usize,
+    t: usize,
+    k: usize,
+    message: Vec<u8>,
+    word: Vec<u8>,
+    received: Vec<u8>,
+    /// A row's word with t places turned, where there is room for rows.
+    row_received: Option<Vec<u8>>,
+}
+
+impl Words {
+    fn new(random: &mut Random, selection: Selection) -> Words {
+        let t = selection.code.t as usize;
+        let length = selection.blocks.len() * t;
+        let k = selection.roles(&mut vec![0; length]).expect("an accepted selection") as usize;
+        let message: Vec<u8> = (0..k).map(|_| random.below(2) as u8).collect();
+        let mut word = vec![0; length];
+        selection.encode(&message, &mut word).expect("a message");
+        let places = random.choice(length, t);
+        let turned = |word: &[u8]| {
+            let mut word = word.to_vec();
+            places.iter().for_each(|&place| word[place] ^= 1);
+            word
+        };
+        let mut row = vec![0; length];
+        let row_received = selection.write_row(FIRST_DARK, &mut row).ok().map(|()| turned(&row));
+        let received = turned(&word);
+        Words { length, t, k, message, word, received, row_received }
+    }
+}
+
+/// Blocks and shifts of a selection of half the code's blocks. With so few, k is small and often 0: of up to a thousand
+/// draws the first that has room for rows is taken, or the last.
+fn half_of_the_blocks(random: &mut Random, code: Code) -> (Vec<u32>, Vec<u32>) {
+    let (count, t) = ((code.n / code.t) as usize, code.t as usize);
+    let half = count / 2;
+    let mut draw = || -> (Vec<u32>, Vec<u32>) {
+        let blocks = random.choice(count, half).into_iter().map(|block| block as u32).collect();
+        (blocks, (0..half).map(|_| random.below(t) as u32).collect())
+    };
+    let carries_rows = |(blocks, shifts): &(Vec<u32>, Vec<u32>)| {
+        Selection { code, blocks, shifts }.write_row(FIRST_DARK, &mut vec![0; half * t]).is_ok()
+    };
+    let mut drawn = draw();
+    for _ in 1..1000 {
+        if carries_rows(&drawn) {
+            break;
+        }
+        drawn = draw();
+    }
+    drawn
+}
+
+/// What the calls are given at a shape: a code, and a selection of half its blocks.
 struct Inputs {
     m: u32,
     n: usize,
     t: usize,
     omega: u32,
     h: Vec<u8>,
-    k: usize,
-    message: Vec<u8>,
-    word: Vec<u8>,
-    received: Vec<u8>,
-    /// A row's word with t places turned, for codes with room for rows.
-    row_received: Option<Vec<u8>>,
+    blocks: Vec<u32>,
+    shifts: Vec<u32>,
+    whole: Words,
+    selected: Words,
     text: Vec<u8>,
     field: rival::Field,
+}
+
+/// The product's call on words, of a code or of a selection, to be made again and again; none where there is no room
+/// for rows.
+macro_rules! product_word_call {
+    ($of:expr, $words:expr, $call:expr) => {{
+        let (of, words) = ($of, $words);
+        let (mut out, mut syndrome) = (vec![0; words.length], vec![0; words.t]);
+        let made: Box<dyn FnMut() + '_> = match $call {
+            "roles" => Box::new(move || keep(of.roles(&mut out).expect("accepted"))),
+            "syndrome" => Box::new(move || of.syndrome(&words.received, &mut syndrome).expect("a word")),
+            "encode" => Box::new(move || of.encode(&words.message, &mut out).expect("a message")),
+            "message" => Box::new(move || of.message(&words.word, &mut out[..words.k]).expect("a word")),
+            "repair" => Box::new(move || keep(of.repair(&words.received, &mut out).expect("t places"))),
+            "write row" => {
+                words.row_received.as_deref()?;
+                Box::new(move || of.write_row(FIRST_DARK, &mut out).expect("a row"))
+            }
+            "read row" => {
+                let received = words.row_received.as_deref()?;
+                Box::new(move || keep(of.read_row(received, &mut out).expect("t places")))
+            }
+            call => unreachable!("{call} is no call"),
+        };
+        Some(made)
+    }};
+}
+
+/// The rival's call for the same. Each time, `begin` makes the tests of the code and of the columns anew; it gives the
+/// inverses of the signature and the words over the columns.
+fn rival_word_call<'a, Column: Fn(usize) -> usize>(
+    begin: impl Fn() -> ([u8; 128], rival::Words<'a, Column>) + 'a,
+    words: &'a Words,
+    call: &str,
+) -> Option<Box<dyn FnMut() + 'a>> {
+    let (mut out, mut syndrome) = (vec![0; words.length], vec![0; words.t]);
+    Some(match call {
+        "roles" => Box::new(move || keep(begin().1.roles(&mut out))),
+        "syndrome" => Box::new(move || begin().1.syndrome(&words.received, &mut syndrome)),
+        "encode" => Box::new(move || begin().1.encode(&words.message, &mut out)),
+        "message" => Box::new(move || begin().1.message(&words.word, &mut out[..words.k])),
+        "repair" => Box::new(move || {
+            let (inverses, columns) = begin();
+            black_box(columns.repair(&inverses, &words.received, &mut out).expect("t places"));
+        }),
+        "write row" => {
+            words.row_received.as_deref()?;
+            Box::new(move || begin().1.write_row(1, 0, &mut out))
+        }
+        "read row" => {
+            let received = words.row_received.as_deref()?;
+            Box::new(move || {
+                let (inverses, columns) = begin();
+                black_box(columns.read_row(&inverses, received, &mut out).expect("t places"));
+            })
+        }
+        call => unreachable!("{call} is no call"),
+    })
 }
 
 impl Inputs {
@@ -91,29 +217,25 @@ impl Inputs {
         let h = signature(&mut random, m, n);
         let omega = random.below(1 << m) as u32;
         let code = Code { m, n, t, omega, h: &h };
-        let k = code.roles(&mut vec![0; n as usize]).expect("an accepted code") as usize;
-        let message: Vec<u8> = (0..k).map(|_| random.below(2) as u8).collect();
-        let mut word = vec![0; n as usize];
-        code.encode(&message, &mut word).expect("a message");
-        let mut places: Vec<usize> = (0..n as usize).collect();
-        (0..t as usize).for_each(|place| places.swap(place, place + random.below(n as usize - place)));
-        let turned = |word: &[u8]| {
-            let mut word = word.to_vec();
-            places[..t as usize].iter().for_each(|&place| word[place] ^= 1);
-            word
-        };
-        let mut row = vec![0; n as usize];
-        let row_received = code.write_row(FIRST_DARK, &mut row).ok().map(|()| turned(&row));
+        let count = n / t;
+        // The whole code is the selection of all its blocks.
+        let all: Vec<u32> = (0..count).collect();
+        let whole = Words::new(&mut random, Selection { code, blocks: &all, shifts: &vec![0; all.len()] });
+        let (blocks, shifts) = half_of_the_blocks(&mut random, code);
+        let selected = Words::new(&mut random, Selection { code, blocks: &blocks, shifts: &shifts });
         let line = |numbers: &[u32]| numbers.iter().map(|number| format!("{number:>4}")).collect::<String>() + "\n";
         let entries: Vec<u32> = h.iter().map(|&entry| entry.into()).collect();
         let text = (line(&[m, n, t, omega]) + &line(&entries)).into_bytes();
-        let received = turned(&word);
         let field = rival::Field::new(m);
-        Inputs { m, n: n as usize, t: t as usize, omega, h, k, message, word, received, row_received, text, field }
+        Inputs { m, n: n as usize, t: t as usize, omega, h, blocks, shifts, whole, selected, text, field }
     }
 
     fn code(&self) -> Code<'_> {
         Code { m: self.m, n: self.n as u32, t: self.t as u32, omega: self.omega, h: &self.h }
+    }
+
+    fn selection(&self) -> Selection<'_> {
+        Selection { code: self.code(), blocks: &self.blocks, shifts: &self.shifts }
     }
 
     fn rival(&self) -> rival::Code<'_> {
@@ -122,6 +244,9 @@ impl Inputs {
 
     /// The product's call, to be made again and again; none where the shape has no such call.
     fn product_call(&self, call: &str) -> Option<Box<dyn FnMut() + '_>> {
+        if let Some(call) = call.strip_prefix("selection ") {
+            return product_word_call!(self.selection(), &self.selected, call);
+        }
         let code = self.code();
         let (m, n, a, b) = (self.m, self.n, u32::from(self.h[0]), u32::from(self.h[1]));
         let (mut out, mut second) = (vec![0; n], vec![0; n]);
@@ -135,30 +260,22 @@ impl Inputs {
             "block inverse" => Box::new(move || block::inverse(m, &self.h, &mut out).expect("an inverse")),
             "check" => Box::new(move || code.check(&mut out, &mut second).expect("accepted")),
             "same" => Box::new(move || keep(code.same(&code).expect("accepted"))),
-            "roles" => Box::new(move || keep(code.roles(&mut out).expect("accepted"))),
-            "syndrome" => Box::new(move || code.syndrome(&self.received, &mut out[..self.t]).expect("a word")),
-            "encode" => Box::new(move || code.encode(&self.message, &mut out).expect("a message")),
-            "message" => Box::new(move || code.message(&self.word, &mut out[..self.k]).expect("a word")),
-            "repair" => Box::new(move || keep(code.repair(&self.received, &mut out).expect("t places"))),
-            "write row" => {
-                self.row_received.as_deref()?;
-                Box::new(move || code.write_row(FIRST_DARK, &mut out).expect("a row"))
-            }
-            "read row" => {
-                let received = self.row_received.as_deref()?;
-                Box::new(move || keep(code.read_row(received, &mut out).expect("t places")))
-            }
             "sheet" => {
                 let mut listing = vec![0; sheet::LONGEST_LISTING];
                 Box::new(move || keep(sheet::listing(&self.text, &mut listing).expect("a sheet")))
             }
-            _ => unreachable!("{call} is no call"),
+            _ => return product_word_call!(code, &self.whole, call),
         })
     }
 
     /// The rival's call for the same.
     fn rival_call(&self, call: &str) -> Option<Box<dyn FnMut() + '_>> {
         let code = self.rival();
+        let check = move || black_box(code.check()).expect("accepted");
+        if let Some(call) = call.strip_prefix("selection ") {
+            let columns = move || code.selected(&self.blocks, &self.shifts).expect("blocks");
+            return rival_word_call(move || (check(), columns()), &self.selected, call);
+        }
         let (n, a, b) = (self.n, self.h[0], self.h[1]);
         let mut out = vec![0; n];
         Some(match call {
@@ -175,42 +292,8 @@ impl Inputs {
                 black_box((code.check(), code.check()));
                 black_box(code.h == self.h);
             }),
-            "roles" => Box::new(move || {
-                black_box(code.check());
-                black_box(code.roles(&mut out));
-            }),
-            "syndrome" => Box::new(move || {
-                black_box(code.check());
-                code.syndrome(&self.received, &mut out[..self.t]);
-            }),
-            "encode" => Box::new(move || {
-                black_box(code.check());
-                code.encode(&self.message, &mut out);
-            }),
-            "message" => Box::new(move || {
-                black_box(code.check());
-                code.message(&self.word, &mut out[..self.k]);
-            }),
-            "repair" => Box::new(move || {
-                let inverses = code.check().expect("accepted");
-                black_box(code.repair(&inverses, &self.received, &mut out).expect("t places"));
-            }),
-            "write row" => {
-                self.row_received.as_deref()?;
-                Box::new(move || {
-                    black_box(code.check());
-                    code.write_row(1, 0, &mut out);
-                })
-            }
-            "read row" => {
-                let received = self.row_received.as_deref()?;
-                Box::new(move || {
-                    let inverses = code.check().expect("accepted");
-                    black_box(code.read_row(&inverses, received, &mut out).expect("t places"));
-                })
-            }
             "sheet" => Box::new(move || keep(rival_listing(&self.field, &self.text))),
-            _ => unreachable!("{call} is no call"),
+            _ => return rival_word_call(move || (check(), code.whole()), &self.whole, call),
         })
     }
 }
@@ -224,7 +307,7 @@ fn rival_listing(field: &rival::Field, text: &[u8]) -> String {
     let code = rival::Code { field, t: first[2] as usize, omega: first[3] as u8, h: &h };
     let inverses = code.check().expect("accepted");
     let mut roles = vec![0; h.len()];
-    let k = code.roles(&mut roles);
+    let k = code.whole().roles(&mut roles);
     let line = |numbers: &[u32]| numbers.iter().map(|number| format!("{number:>4}")).collect::<String>() + "\n";
     let mut listing = line(&[first[0], first[1], first[2], first[3], first[1] - k, k]);
     for j in 0..h.len() {

@@ -84,6 +84,7 @@ pub fn block_inverse(field: &Field, a: &[u8], out: &mut [u8]) -> bool {
 }
 
 /// A code that is checked anew by each call, as the product's calls do.
+#[derive(Clone, Copy)]
 pub struct Code<'a> {
     pub field: &'a Field,
     pub t: usize,
@@ -91,10 +92,7 @@ pub struct Code<'a> {
     pub h: &'a [u8],
 }
 
-/// The rows of the basis by their leading places.
-type Basis = [u128; 128];
-
-impl Code<'_> {
+impl<'a> Code<'a> {
     /// The inverses of the signature, if it is accepted.
     pub fn check(&self) -> Option<[u8; 128]> {
         let n = self.h.len();
@@ -119,19 +117,66 @@ impl Code<'_> {
         distinct.then_some(inverses)
     }
 
+    /// The words over all columns.
+    pub fn whole(self) -> Words<'a, impl Fn(usize) -> usize> {
+        Words { code: self, length: self.h.len(), column: |place| place }
+    }
+
+    /// The words over some blocks of columns, if these are blocks, each at most once, and the shifts are below t.
+    pub fn selected(self, blocks: &[u32], shifts: &[u32]) -> Option<Words<'a, impl Fn(usize) -> usize>> {
+        let count = self.h.len() / self.t;
+        if blocks.is_empty() || blocks.len() > count || shifts.len() != blocks.len() {
+            return None;
+        }
+        let mut named = 0_u128;
+        for &block in blocks {
+            if block as usize >= count || named >> block & 1 == 1 {
+                return None;
+            }
+            named |= 1 << block;
+        }
+        if shifts.iter().any(|&shift| shift as usize >= self.t) {
+            return None;
+        }
+        let mut columns = [0_u8; 128];
+        for (b, places) in columns[..blocks.len() * self.t].chunks_mut(self.t).enumerate() {
+            for (r, column) in places.iter_mut().enumerate() {
+                *column = (blocks[b] as usize * self.t + (r ^ shifts[b] as usize)) as u8;
+            }
+        }
+        Some(Words { code: self, length: blocks.len() * self.t, column: move |place: usize| columns[place].into() })
+    }
+}
+
+/// The words over some columns of a code, place j of a word being column `column(j)`.
+pub struct Words<'a, Column> {
+    code: Code<'a>,
+    length: usize,
+    column: Column,
+}
+
+/// The rows of the basis by their leading places.
+type Basis = [u128; 128];
+
+impl<Column: Fn(usize) -> usize> Words<'_, Column> {
+    /// The entry of the parity check matrix in row i at a place.
+    fn entry(&self, i: usize, place: usize) -> u8 {
+        self.code.h[i ^ (self.column)(place)]
+    }
+
     pub fn syndrome(&self, word: &[u8], out: &mut [u8]) {
         for (i, row) in out.iter_mut().enumerate() {
-            *row = (0..word.len()).fold(0, |sum, j| if word[j] == 1 { sum ^ self.h[i ^ j] } else { sum });
+            *row = (0..word.len()).fold(0, |sum, j| if word[j] == 1 { sum ^ self.entry(i, j) } else { sum });
         }
     }
 
     /// An echelon basis of the parity rows by their leftmost one, bit j for place j.
     pub fn basis(&self) -> Basis {
-        let n = self.h.len();
         let mut basis = [0; 128];
-        for i in 0..self.t {
-            for bit in 0..self.field.m {
-                let mut row = (0..n).fold(0_u128, |row, j| row | u128::from(self.h[i ^ j] >> bit & 1) << j);
+        for i in 0..self.code.t {
+            for bit in 0..self.code.field.m {
+                let mut row =
+                    (0..self.length).fold(0_u128, |row, j| row | u128::from(self.entry(i, j) >> bit & 1) << j);
                 while row != 0 {
                     let lead = row.trailing_zeros() as usize;
                     if basis[lead] == 0 {
@@ -182,12 +227,12 @@ impl Code<'_> {
     }
 
     fn evaluate(&self, half: &[u8], y: u8) -> u8 {
-        half.iter().rev().fold(0, |value, &coefficient| self.field.product(value, y) ^ coefficient)
+        half.iter().rev().fold(0, |value, &coefficient| self.code.field.product(value, y) ^ coefficient)
     }
 
     /// The number of places turned, if the word can be repaired.
     pub fn repair(&self, inverses: &[u8; 128], received: &[u8], repaired: &mut [u8]) -> Option<u32> {
-        let (n, t) = (self.h.len(), self.t);
+        let Code { field, t, omega, .. } = self.code;
         let mut syndrome = [0; 64];
         self.syndrome(received, &mut syndrome[..t]);
         if syndrome[..t].iter().all(|&row| row == 0) {
@@ -201,26 +246,26 @@ impl Code<'_> {
         let mut degrees = [0, 1];
         let lengths = |degree: usize| [degree / 2 + 1, degree.div_ceil(2)];
         for i in 0..t {
-            let (z, s) = (inverses[i] ^ self.omega, syndrome[i]);
-            let y = self.field.product(z, z);
+            let (z, s) = (inverses[i] ^ omega, syndrome[i]);
+            let y = field.product(z, z);
             let discrepancy = [0, 1].map(|p: usize| {
                 let [even, odd] = lengths(degrees[p]);
                 let slope = self.evaluate(&pairs[p][1][..odd], y);
                 let level = self.evaluate(&pairs[p][0][..even], y);
-                self.field.product(1 ^ self.field.product(s, z), slope) ^ self.field.product(s, level)
+                field.product(1 ^ field.product(s, z), slope) ^ field.product(s, level)
             });
             let smaller = usize::from(degrees[1] < degrees[0]);
             let pivot = if discrepancy[smaller] != 0 { smaller } else { 1 - smaller };
             let other = 1 - pivot;
             for half in 0..2 {
                 for k in 0..lengths(degrees[other])[half] {
-                    pairs[other][half][k] = self.field.product(discrepancy[pivot], pairs[other][half][k])
-                        ^ self.field.product(discrepancy[other], pairs[pivot][half][k]);
+                    pairs[other][half][k] = field.product(discrepancy[pivot], pairs[other][half][k])
+                        ^ field.product(discrepancy[other], pairs[pivot][half][k]);
                 }
                 let mut lower = 0;
                 for k in 0..=lengths(degrees[pivot])[half] {
                     let here = pairs[pivot][half][k];
-                    pairs[pivot][half][k] = lower ^ self.field.product(y, here);
+                    pairs[pivot][half][k] = lower ^ field.product(y, here);
                     lower = here;
                 }
             }
@@ -230,20 +275,20 @@ impl Code<'_> {
         let [even, odd] = lengths(degrees[least]);
         let mut word = [0; 128];
         let mut turned = 0;
-        for j in 0..n {
-            let x = inverses[j] ^ inverses[0] ^ self.omega;
-            let y = self.field.product(x, x);
+        for j in 0..self.length {
+            let x = inverses[(self.column)(j)] ^ inverses[0] ^ omega;
+            let y = field.product(x, x);
             let level = self.evaluate(&pairs[least][0][..even], y);
             let slope = self.evaluate(&pairs[least][1][..odd], y);
-            let root = level == self.field.product(x, slope);
+            let root = level == field.product(x, slope);
             word[j] = received[j] ^ u8::from(root);
             turned += u32::from(root);
         }
-        self.syndrome(&word[..n], &mut syndrome[..t]);
+        self.syndrome(&word[..self.length], &mut syndrome[..t]);
         if turned as usize > t || syndrome[..t].iter().any(|&row| row != 0) {
             return None;
         }
-        repaired.copy_from_slice(&word[..n]);
+        repaired.copy_from_slice(&word[..self.length]);
         Some(turned)
     }
 
@@ -257,17 +302,17 @@ impl Code<'_> {
 
     /// gear + 8 × lamp, if the word can be repaired and carries a row.
     pub fn read_row(&self, inverses: &[u8; 128], received: &[u8], repaired: &mut [u8]) -> Option<u32> {
-        let n = self.h.len();
         let mut word = [0; 128];
-        self.repair(inverses, received, &mut word[..n])?;
+        let word = &mut word[..self.length];
+        self.repair(inverses, received, word)?;
         let mut message = [0; 128];
-        self.message(&word[..n], &mut message);
+        self.message(word, &mut message);
         let number = (0..5).fold(0, |number, place| number | u32::from(message[place]) << place);
         let (gear, lamp) = (number % 8, number / 8);
         if message[5..].contains(&1) || lamp > 2 || lamp == 1 && gear != 0 && gear != 7 {
             return None;
         }
-        repaired.copy_from_slice(&word[..n]);
+        repaired.copy_from_slice(word);
         Some(number)
     }
 }

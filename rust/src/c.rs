@@ -136,6 +136,116 @@ extern "C" {
         repaired: *mut u8,
         repaired_length: usize,
     ) -> i32;
+    pub fn zov_selection_roles(
+        m: u32,
+        n: u32,
+        t: u32,
+        omega: u32,
+        h: *const Elem,
+        h_length: usize,
+        blocks: *const u32,
+        blocks_length: usize,
+        shifts: *const u32,
+        shifts_length: usize,
+        roles: *mut u8,
+        roles_length: usize,
+    ) -> i32;
+    pub fn zov_selection_syndrome(
+        m: u32,
+        n: u32,
+        t: u32,
+        omega: u32,
+        h: *const Elem,
+        h_length: usize,
+        blocks: *const u32,
+        blocks_length: usize,
+        shifts: *const u32,
+        shifts_length: usize,
+        word: *const u8,
+        word_length: usize,
+        out: *mut Elem,
+        out_length: usize,
+    ) -> i32;
+    pub fn zov_selection_encode(
+        m: u32,
+        n: u32,
+        t: u32,
+        omega: u32,
+        h: *const Elem,
+        h_length: usize,
+        blocks: *const u32,
+        blocks_length: usize,
+        shifts: *const u32,
+        shifts_length: usize,
+        message: *const u8,
+        message_length: usize,
+        word: *mut u8,
+        word_length: usize,
+    ) -> i32;
+    pub fn zov_selection_message(
+        m: u32,
+        n: u32,
+        t: u32,
+        omega: u32,
+        h: *const Elem,
+        h_length: usize,
+        blocks: *const u32,
+        blocks_length: usize,
+        shifts: *const u32,
+        shifts_length: usize,
+        word: *const u8,
+        word_length: usize,
+        message: *mut u8,
+        message_length: usize,
+    ) -> i32;
+    pub fn zov_selection_repair(
+        m: u32,
+        n: u32,
+        t: u32,
+        omega: u32,
+        h: *const Elem,
+        h_length: usize,
+        blocks: *const u32,
+        blocks_length: usize,
+        shifts: *const u32,
+        shifts_length: usize,
+        received: *const u8,
+        received_length: usize,
+        repaired: *mut u8,
+        repaired_length: usize,
+    ) -> i32;
+    pub fn zov_selection_write_row(
+        m: u32,
+        n: u32,
+        t: u32,
+        omega: u32,
+        h: *const Elem,
+        h_length: usize,
+        blocks: *const u32,
+        blocks_length: usize,
+        shifts: *const u32,
+        shifts_length: usize,
+        gear: u32,
+        lamp: u32,
+        word: *mut u8,
+        word_length: usize,
+    ) -> i32;
+    pub fn zov_selection_read_row(
+        m: u32,
+        n: u32,
+        t: u32,
+        omega: u32,
+        h: *const Elem,
+        h_length: usize,
+        blocks: *const u32,
+        blocks_length: usize,
+        shifts: *const u32,
+        shifts_length: usize,
+        received: *const u8,
+        received_length: usize,
+        repaired: *mut u8,
+        repaired_length: usize,
+    ) -> i32;
     pub fn zov_sheet(text: *const u8, text_length: usize, out: *mut u8, out_length: usize) -> i32;
 }
 
@@ -150,3 +260,16 @@ pub fn done(returned: i32) -> Result<(), Refusal> {
     debug_assert_eq!(value, 0);
     Ok(())
 }
+
+/// Calls a function of the library for a code. Further arguments are numbers, or a slice as its pointer and its length.
+macro_rules! call {
+    ($code:expr, $function:ident $(, $argument:expr)*) => {
+        // SAFETY: each pointer goes with the length of its slice, and no slice that is written overlaps another: it is
+        // borrowed as mutable.
+        unsafe {
+            c::$function($code.m, $code.n, $code.t, $code.omega, $code.h.as_ptr(), $code.h.len() $(, $argument)*)
+        }
+    };
+}
+
+pub(crate) use call;

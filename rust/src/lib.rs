@@ -4,7 +4,8 @@
 //! nothing and needs no standard library, so that firmware can use it.
 //!
 //! A [`Code`] is a card: any values may stand in it, and each call refuses by a [`Refusal`] what breaks a rule. Buffers
-//! are lent by the caller and are left alone by a call that is refused.
+//! are lent by the caller and are left alone by a call that is refused. A [`Selection`] has the calls on words for some
+//! blocks of a code.
 //!
 //! ```
 //! use zovunelith::{Code, Lamp, Refusal, Row};
@@ -33,11 +34,14 @@ mod code;
 pub mod field;
 mod refusal;
 mod row;
+mod selection;
 pub mod sheet;
+mod words;
 
 pub use code::Code;
 pub use refusal::Refusal;
 pub use row::{Lamp, Reading, Row};
+pub use selection::Selection;
 
 /// An element of a field (`zov_elem`).
 pub type Elem = u8;

@@ -32,10 +32,14 @@ pub enum Refusal {
     Narrow = 12,
     /// 13: a text that is no sheet.
     Sheet = 13,
+    /// 14: a selection names a block of n/t or more, or one block twice.
+    NoSuchBlock = 14,
+    /// 15: a shift of a selection is t or more.
+    Shift = 15,
 }
 
 /// Every refusal, with its word on the bench and its meaning.
-const TABLE: [(Refusal, &str, &str); 13] = [
+const TABLE: [(Refusal, &str, &str); 15] = [
     (Refusal::Width, "width", "m outside 2 to 8"),
     (Refusal::Length, "length", "n, a block or a lent buffer has another length than is asked for"),
     (Refusal::Stranger, "stranger", "an element or offset of 2^m or more"),
@@ -49,6 +53,8 @@ const TABLE: [(Refusal, &str, &str); 13] = [
     (Refusal::NoSuchRow, "no such row", "gear or lamp outside the rules"),
     (Refusal::Narrow, "narrow", "k below 5 when a row is written or read"),
     (Refusal::Sheet, "sheet", "text that is no sheet"),
+    (Refusal::NoSuchBlock, "no such block", "a block number of n/t or more, or one named twice"),
+    (Refusal::Shift, "shift", "a shift of t or more"),
 ];
 
 impl Refusal {
@@ -57,7 +63,7 @@ impl Refusal {
         TABLE[number as usize - 1].0
     }
 
-    /// Its number, from 1 to 13.
+    /// Its number, from 1 to 15.
     pub fn number(self) -> u32 {
         self as u32
     }

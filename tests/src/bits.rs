@@ -3,6 +3,11 @@
 /// Bytes that are no bits.
 pub const BAD_BYTES: [u8; 6] = [2, 3, 48, 128, 254, 255];
 
+/// The bits of a number, lowest first.
+pub fn bits(number: usize, length: usize) -> Vec<u8> {
+    (0..length).map(|place| (number >> place & 1) as u8).collect()
+}
+
 /// The word of n bits that holds 1 at these places.
 pub fn ones_at(n: usize, places: &[usize]) -> Vec<u8> {
     (0..n).map(|place| u8::from(places.contains(&place))).collect()

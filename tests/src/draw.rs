@@ -1,8 +1,10 @@
-//! Random codes: accepted ones of every shape, and ones with chosen faults.
+//! Random codes and selections: accepted ones of every shape, and codes with chosen faults.
 
 use crate::random::Random;
+use crate::reference::columns::{block_count, Selection};
 use crate::reference::field;
 use crate::reference::params::{Params, LENGTHS, ROWS};
+use crate::reference::words::Code;
 use crate::Elem;
 
 /// Every m, n and t for which a code can be accepted: n is at most q/2 and t at most n/2.
@@ -90,6 +92,24 @@ pub fn params(random: &mut Random, m: u32, n: u32, t: u32) -> Params {
     Params { m, n, t, omega: element(random, m).into(), h }
 }
 
+/// A selection of `count` blocks of an accepted code, in any order and with any shifts.
+pub fn selection(random: &mut Random, params: &Params, count: usize) -> Selection {
+    let blocks = random.choice(block_count(params), count).into_iter().map(|block| block as u32).collect();
+    let shifts = (0..count).map(|_| random.below(params.t as usize) as u32).collect();
+    Selection { params: params.clone(), blocks, shifts }
+}
+
+/// A code of every shape with n at most `longest`, and beside each the code over a selection of its blocks.
+pub fn codes(random: &mut Random, longest: u32) -> Vec<Code> {
+    let mut codes = Vec::new();
+    for (m, n, t) in shapes().into_iter().filter(|shape| shape.1 <= longest) {
+        let params = params(random, m, n, t);
+        let count = 1 + random.below(block_count(&params));
+        codes.extend([Code::new(&params), selection(random, &params, count).code()]);
+    }
+    codes
+}
+
 /// Places of a word to try one by one: all of them, or for long words the first, the last and some between.
 pub fn places_to_try(random: &mut Random, n: usize) -> Vec<usize> {
     if n <= 32 {
@@ -149,10 +169,14 @@ pub fn code_faults(m: u32, n: u32) -> Vec<CodeFault> {
     all.into_iter().filter(possible).collect()
 }
 
-/// Each fault for itself and every two of them together.
+/// Each fault of a code for itself and every two of them together.
 pub fn singles_and_pairs(m: u32, n: u32) -> Vec<Vec<CodeFault>> {
-    let faults = code_faults(m, n);
-    let mut sets: Vec<Vec<CodeFault>> = faults.iter().map(|&fault| vec![fault]).collect();
+    one_or_two(&code_faults(m, n))
+}
+
+/// Each fault for itself and every two of them together.
+pub fn one_or_two<Fault: Copy>(faults: &[Fault]) -> Vec<Vec<Fault>> {
+    let mut sets: Vec<Vec<Fault>> = faults.iter().map(|&fault| vec![fault]).collect();
     for (index, &one) in faults.iter().enumerate() {
         sets.extend(faults[..index].iter().map(|&other| vec![other, one]));
     }

@@ -1,6 +1,8 @@
 //! The product, through its Rust crate, with a refusal as its number.
 
-use zovunelith::{Code, Elem, Refusal};
+use crate::canary::Lent;
+use crate::reference::columns::Setting;
+use zovunelith::{Code, Elem, Refusal, Selection};
 
 /// m, n, t and ω.
 type Numbers = (u32, u32, u32, u32);
@@ -63,50 +65,76 @@ pub mod params {
     }
 }
 
+/// Makes a call on words, of a whole code or of a selection, and sees that it leaves the lists that it is lent alone.
+macro_rules! call {
+    ($setting:expr, $method:ident($($argument:expr),*)) => {{
+        let params = $setting.params();
+        let h = Lent::holding(&params.h);
+        let code = code((params.m, params.n, params.t, params.omega), h.slice());
+        let answer = match $setting.lists() {
+            None => code.$method($($argument),*),
+            Some((blocks, shifts)) => {
+                let (blocks, shifts) = (Lent::holding(blocks), Lent::holding(shifts));
+                let selection = Selection { code, blocks: blocks.slice(), shifts: shifts.slice() };
+                let answer = selection.$method($($argument),*);
+                blocks.assert_unchanged();
+                shifts.assert_unchanged();
+                answer
+            }
+        };
+        h.assert_unchanged();
+        numbered(answer)
+    }};
+}
+
 /// Roles, syndrome, encoding and taking the message out.
 pub mod words {
-    use super::{code, numbered, Numbers};
-    use zovunelith::Elem;
+    use super::*;
 
-    pub fn roles(numbers: Numbers, h: &[Elem], roles: &mut [u8]) -> Result<u32, u32> {
-        numbered(code(numbers, h).roles(roles))
+    #[track_caller]
+    pub fn roles(setting: &impl Setting, roles: &mut [u8]) -> Result<u32, u32> {
+        call!(setting, roles(roles))
     }
 
-    pub fn syndrome(numbers: Numbers, h: &[Elem], word: &[u8], out: &mut [Elem]) -> Result<(), u32> {
-        numbered(code(numbers, h).syndrome(word, out))
+    #[track_caller]
+    pub fn syndrome(setting: &impl Setting, word: &[u8], out: &mut [Elem]) -> Result<(), u32> {
+        call!(setting, syndrome(word, out))
     }
 
-    pub fn encode(numbers: Numbers, h: &[Elem], message: &[u8], word: &mut [u8]) -> Result<(), u32> {
-        numbered(code(numbers, h).encode(message, word))
+    #[track_caller]
+    pub fn encode(setting: &impl Setting, message: &[u8], word: &mut [u8]) -> Result<(), u32> {
+        call!(setting, encode(message, word))
     }
 
-    pub fn message(numbers: Numbers, h: &[Elem], word: &[u8], message: &mut [u8]) -> Result<(), u32> {
-        numbered(code(numbers, h).message(word, message))
+    #[track_caller]
+    pub fn message(setting: &impl Setting, word: &[u8], message: &mut [u8]) -> Result<(), u32> {
+        call!(setting, message(word, message))
     }
 }
 
 /// Repair.
 pub mod repair {
-    use super::{code, numbered, Numbers};
-    use zovunelith::Elem;
+    use super::*;
 
-    pub fn repair(numbers: Numbers, h: &[Elem], received: &[u8], repaired: &mut [u8]) -> Result<u32, u32> {
-        numbered(code(numbers, h).repair(received, repaired))
+    #[track_caller]
+    pub fn repair(setting: &impl Setting, received: &[u8], repaired: &mut [u8]) -> Result<u32, u32> {
+        call!(setting, repair(received, repaired))
     }
 }
 
 /// Writing and reading gear rows.
 pub mod rows {
-    use super::{code, numbered, Numbers};
-    use zovunelith::Elem;
+    use super::*;
 
-    pub fn write(numbers: Numbers, h: &[Elem], gear: u32, lamp: u32, word: &mut [u8]) -> Result<(), u32> {
-        numbered(code(numbers, h).write_numbers(gear, lamp, word))
+    #[track_caller]
+    pub fn write(setting: &impl Setting, gear: u32, lamp: u32, word: &mut [u8]) -> Result<(), u32> {
+        call!(setting, write_numbers(gear, lamp, word))
     }
 
     /// A row that was read: gear, lamp and count of repaired bits.
-    pub fn read(numbers: Numbers, h: &[Elem], received: &[u8], repaired: &mut [u8]) -> Result<(u32, u32, u32), u32> {
-        let reading = numbered(code(numbers, h).read_row(received, repaired))?;
+    #[track_caller]
+    pub fn read(setting: &impl Setting, received: &[u8], repaired: &mut [u8]) -> Result<(u32, u32, u32), u32> {
+        let reading = call!(setting, read_row(received, repaired))?;
         Ok((reading.row.gear, reading.row.lamp as u32, reading.count))
     }
 }

@@ -43,17 +43,23 @@ impl Random {
         (0..length).map(|_| (self.draw() >> 63) as u8).collect()
     }
 
-    /// `count` different places below `length`, in rising order.
-    pub fn places(&mut self, length: usize, count: usize) -> Vec<usize> {
-        assert!(count <= length, "no more places than there are");
+    /// `count` different numbers below `length`, in any order.
+    pub fn choice(&mut self, length: usize, count: usize) -> Vec<usize> {
+        assert!(count <= length, "no more numbers than there are");
         let mut all: Vec<usize> = (0..length).collect();
         for taken in 0..count {
             let other = taken + self.below(length - taken);
             all.swap(taken, other);
         }
         all.truncate(count);
-        all.sort_unstable();
         all
+    }
+
+    /// `count` different places below `length`, in rising order.
+    pub fn places(&mut self, length: usize, count: usize) -> Vec<usize> {
+        let mut places = self.choice(length, count);
+        places.sort_unstable();
+        places
     }
 }
 

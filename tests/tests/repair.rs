@@ -4,55 +4,31 @@
 //! The environment variable `ZOV_REPAIR_WORDS` gives the number of random words, 100,000 without it.
 
 use std::ops::RangeInclusive;
-use zovunelith_tests::bits::{ones_at, turned, BAD_BYTES};
+use zovunelith_tests::bits::{bits, ones_at, turned, BAD_BYTES};
 use zovunelith_tests::canary::Lent;
 use zovunelith_tests::draw::{self, CodeFault};
-use zovunelith_tests::library::repair as library;
+use zovunelith_tests::expect::{comes_back, repair_gives, Counted};
 use zovunelith_tests::random::{number_from_environment, Random};
 use zovunelith_tests::reference::field;
 use zovunelith_tests::reference::params::{code_a, code_t, Params};
 use zovunelith_tests::reference::repair::{self as reference, distance, Decoder};
 use zovunelith_tests::reference::words::Code;
 
-/// A repaired word and its count, or a number.
-type Answer = Result<(Vec<u8>, u32), u32>;
-
 fn decoder(random: &mut Random, m: u32, n: u32, t: u32) -> Decoder {
     Decoder::new(Code::new(&draw::params(random, m, n, t)))
 }
 
-/// Repairs a word into a buffer with canaries around it; answer and buffers are to be those of `expected`.
-#[track_caller]
-fn repair_gives(params: &Params, received: &[u8], mut repaired: Lent<u8>, expected: &Answer) {
-    let (h, received) = (Lent::holding(&params.h), Lent::holding(received));
-    let numbers = (params.m, params.n, params.t, params.omega);
-    let answer = library::repair(numbers, h.slice(), received.slice(), repaired.slice_mut());
-    let expected_answer = expected.as_ref().map(|repaired| repaired.1).map_err(|&number| number);
-    assert_eq!(answer, expected_answer, "{params:?}, received {:?}", received.slice());
-    h.assert_unchanged();
-    received.assert_unchanged();
-    repaired.assert_holds(expected.as_ref().ok().map(|repaired| repaired.0.as_slice()));
-}
-
 /// Repairs a word and compares with the second implementation.
 #[track_caller]
-fn compare(decoder: &Decoder, received: &[u8]) -> Answer {
+fn compare(decoder: &Decoder, received: &[u8]) -> Counted {
     let expected = decoder.repair(received).ok_or(10);
     repair_gives(&decoder.code.params, received, Lent::marked(received.len()), &expected);
     expected
 }
 
-/// Compares the repair of a code word with these places turned, of which there are at most t: the code word is to
-/// come back, with their count.
-#[track_caller]
-fn comes_back(code: &Code, sent: &[u8], places: &[usize]) {
-    let expected = Ok((sent.to_vec(), places.len() as u32));
-    repair_gives(&code.params, &turned(sent, places), Lent::marked(code.n()), &expected);
-}
-
 #[test]
 fn cases() {
-    let gives = |params: &Params, received: &[u8], expected: Answer| {
+    let gives = |params: &Params, received: &[u8], expected: Counted| {
         assert_eq!(reference::repair(params, received, received.len()), expected);
         repair_gives(params, received, Lent::marked(received.len()), &expected);
     };
@@ -68,9 +44,8 @@ fn cases() {
 fn all_words_of_the_toy_example() {
     let decoder = Decoder::new(Code::new(&code_t()));
     let mut repaired = 0;
-    for number in 0..1_u32 << 16 {
-        let received: Vec<u8> = (0..16).map(|place| (number >> place & 1) as u8).collect();
-        repaired += usize::from(compare(&decoder, &received).is_ok());
+    for number in 0..1 << 16 {
+        repaired += usize::from(compare(&decoder, &bits(number, 16)).is_ok());
     }
     // Each of the 64 code words has 1 + 16 + 120 words within two places, no word being near two of them.
     assert_eq!(repaired, 64 * 137);
@@ -83,9 +58,8 @@ fn all_words_of_small_codes() {
     for (m, n, t) in draw::shapes().into_iter().filter(|shape| shape.1 <= 8) {
         for _ in 0..8 {
             let decoder = decoder(&mut random, m, n, t);
-            for number in 0..1_u32 << n {
-                let received: Vec<u8> = (0..n).map(|place| (number >> place & 1) as u8).collect();
-                compare(&decoder, &received).ok();
+            for number in 0..1 << n {
+                compare(&decoder, &bits(number, n as usize)).ok();
             }
         }
     }
@@ -97,12 +71,12 @@ fn all_errors_of_at_most_t_places() {
     let mut random = Random::new(502);
     for (m, n, t) in draw::shapes() {
         let code = Code::new(&draw::params(&mut random, m, n, t));
-        let Some(choices) = choices(code.n(), t as usize, 3000) else {
+        let Some(choices) = choices(code.length(), t as usize, 3000) else {
             continue;
         };
         let sent = code.encode(&random.bits(code.k()));
         for places in choices {
-            comes_back(&code, &sent, &places);
+            comes_back(&code.params, &sent, &places);
         }
     }
 }
@@ -138,9 +112,9 @@ fn random_words(random: &mut Random, lengths: RangeInclusive<u32>, share: u64) {
         for (m, n, t) in draw::shapes().into_iter().filter(|shape| lengths.contains(&shape.1)) {
             for _ in 0..lengths.end() / n {
                 let decoder = decoder(random, m, n, t);
-                for weight in 0..=decoder.code.n() {
+                for weight in 0..=decoder.code.length() {
                     let sent = decoder.code.encode(&random.bits(decoder.code.k()));
-                    let received = turned(&sent, &random.places(decoder.code.n(), weight));
+                    let received = turned(&sent, &random.places(decoder.code.length(), weight));
                     let answer = compare(&decoder, &received);
                     if weight <= t as usize {
                         assert_eq!(answer, Ok((sent, weight as u32)), "{:?}", decoder.code.params);
@@ -175,8 +149,8 @@ fn words_at_and_beyond_the_limit() {
         let decoder = decoder(&mut random, m, n, t);
         for _ in 0..40 {
             let sent = decoder.code.encode(&random.bits(decoder.code.k()));
-            comes_back(&decoder.code, &sent, &random.places(decoder.code.n(), t as usize));
-            let received = turned(&sent, &random.places(decoder.code.n(), t as usize + 1));
+            comes_back(&decoder.code.params, &sent, &random.places(decoder.code.length(), t as usize));
+            let received = turned(&sent, &random.places(decoder.code.length(), t as usize + 1));
             if let Ok((word, count)) = compare(&decoder, &received) {
                 assert_ne!(word, sent);
                 assert_eq!(count as usize, distance(&word, &received));
@@ -195,10 +169,10 @@ fn syndromes_with_zeros_in_them() {
         let code = Code::new(&draw::params(&mut random, m, n, t));
         for _ in 0..500 {
             let weight = 1 + random.below(t as usize);
-            let places = random.places(code.n(), weight);
-            let syndrome = code.syndrome(&ones_at(code.n(), &places));
+            let places = random.places(code.length(), weight);
+            let syndrome = code.syndrome(&ones_at(code.length(), &places));
             if syndrome.contains(&0) {
-                comes_back(&code, &code.encode(&random.bits(code.k())), &places);
+                comes_back(&code.params, &code.encode(&random.bits(code.k())), &places);
                 met += 1;
             }
         }
@@ -213,15 +187,15 @@ fn the_zero_of_the_support() {
     for (m, n, t) in draw::shapes() {
         let code = Code::new(&draw::params(&mut random, m, n, t));
         let reciprocal = |j: usize| field::reciprocal(m, code.params.h[j]);
-        for j in random.places(code.n(), code.n().min(8)) {
+        for j in random.places(code.length(), code.length().min(8)) {
             let moved = Code::new(&Params { omega: (reciprocal(j) ^ reciprocal(0)).into(), ..code.params.clone() });
             let sent = moved.encode(&random.bits(moved.k()));
-            comes_back(&moved, &sent, &[j]);
-            let mut places = random.places(code.n(), t as usize);
+            comes_back(&moved.params, &sent, &[j]);
+            let mut places = random.places(code.length(), t as usize);
             if !places.contains(&j) {
                 places[0] = j;
             }
-            comes_back(&moved, &sent, &places);
+            comes_back(&moved.params, &sent, &places);
         }
     }
 }
@@ -233,12 +207,12 @@ fn every_offset() {
     for (m, n, t) in [(2, 2, 1), (3, 4, 1), (4, 8, 2), (5, 16, 2), (6, 32, 4), (7, 16, 2), (8, 64, 4)] {
         let decoder = decoder(&mut random, m, n, t);
         let sent = decoder.code.encode(&random.bits(decoder.code.k()));
-        for weight in [t as usize, t as usize + 1, decoder.code.n() / 2] {
-            let received = turned(&sent, &random.places(decoder.code.n(), weight));
+        for weight in [t as usize, t as usize + 1, decoder.code.length() / 2] {
+            let received = turned(&sent, &random.places(decoder.code.length(), weight));
             let expected = decoder.repair(&received).ok_or(10);
             for omega in 0..field::size(m) {
                 let params = Params { omega, ..decoder.code.params.clone() };
-                repair_gives(&params, &received, Lent::marked(decoder.code.n()), &expected);
+                repair_gives(&params, &received, Lent::marked(decoder.code.length()), &expected);
             }
         }
     }
@@ -250,7 +224,7 @@ fn buffers_with_other_contents() {
     let mut random = Random::new(508);
     for (m, n, t) in draw::shapes() {
         let decoder = decoder(&mut random, m, n, t);
-        let length = decoder.code.n();
+        let length = decoder.code.length();
         for weight in [0, 1, t as usize, t as usize + 1, length] {
             let sent = decoder.code.encode(&random.bits(decoder.code.k()));
             let received = turned(&sent, &random.places(length, weight));
@@ -268,10 +242,10 @@ fn bytes_that_are_no_bits() {
     let mut random = Random::new(509);
     for (m, n, t) in draw::shapes() {
         let code = Code::new(&draw::params(&mut random, m, n, t));
-        for place in draw::places_to_try(&mut random, code.n()) {
-            for mut received in [code.encode(&random.bits(code.k())), random.bits(code.n())] {
+        for place in draw::places_to_try(&mut random, code.length()) {
+            for mut received in [code.encode(&random.bits(code.k())), random.bits(code.length())] {
                 received[place] = random.pick(&BAD_BYTES);
-                repair_gives(&code.params, &received, Lent::marked(code.n()), &Err(8));
+                repair_gives(&code.params, &received, Lent::marked(code.length()), &Err(8));
             }
         }
     }

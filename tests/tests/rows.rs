@@ -3,6 +3,7 @@
 use zovunelith_tests::bits::{ones_at, turned, BAD_BYTES};
 use zovunelith_tests::canary::Lent;
 use zovunelith_tests::draw;
+use zovunelith_tests::expect::{reading_gives, writing_gives};
 use zovunelith_tests::library::rows as library;
 use zovunelith_tests::random::Random;
 use zovunelith_tests::reference::field;
@@ -20,37 +21,9 @@ fn allowed(gear: u32, lamp: u32) -> bool {
     gear <= 7 && (lamp == 0 || lamp == 2 || lamp == 1 && (gear == 0 || gear == 7))
 }
 
-fn numbers(params: &Params) -> (u32, u32, u32, u32) {
-    (params.m, params.n, params.t, params.omega)
-}
-
 /// A code of this shape.
 fn decoder(random: &mut Random, m: u32, n: u32, t: u32) -> Decoder {
     Decoder::new(Code::new(&draw::params(random, m, n, t)))
-}
-
-/// Writes a row with canaries around every buffer; answer and buffers are to be those of `expected`.
-#[track_caller]
-fn writing_gives(params: &Params, gear: u32, lamp: u32, word_length: usize, expected: &Result<Vec<u8>, u32>) {
-    let h = Lent::holding(&params.h);
-    let mut word = Lent::marked(word_length);
-    let answer = library::write(numbers(params), h.slice(), gear, lamp, word.slice_mut());
-    let expected_answer = expected.as_ref().map(|_| ()).map_err(|&number| number);
-    assert_eq!(answer, expected_answer, "gear {gear}, lamp {lamp}, {params:?}");
-    h.assert_unchanged();
-    word.assert_holds(expected.as_deref().ok());
-}
-
-/// Reads a row into a buffer with canaries around it; answer and buffers are to be those of `expected`.
-#[track_caller]
-fn reading_gives(params: &Params, received: &[u8], mut repaired: Lent<u8>, expected: &Result<Read, u32>) {
-    let (h, received) = (Lent::holding(&params.h), Lent::holding(received));
-    let answer = library::read(numbers(params), h.slice(), received.slice(), repaired.slice_mut());
-    let told = expected.as_ref().map(|(row, _, count)| (row.gear, row.lamp, *count));
-    assert_eq!(answer, told.map_err(|&number| number), "{params:?}, received {:?}", received.slice());
-    h.assert_unchanged();
-    received.assert_unchanged();
-    repaired.assert_holds(expected.as_ref().ok().map(|read| read.1.as_slice()));
 }
 
 /// Reads a row and compares with the second implementation.
@@ -92,7 +65,7 @@ fn rows_and_others_written() {
                 } else {
                     Err(11)
                 };
-                writing_gives(&params, gear, lamp, code.n(), &expected);
+                writing_gives(&params, gear, lamp, code.length(), &expected);
             }
         }
     }
@@ -151,16 +124,16 @@ fn rows_of_every_shape() {
         shapes += 1;
         for row in reference::rows() {
             let word = decoder.code.encode(&reference::message(row, decoder.code.k()));
-            writing_gives(&decoder.code.params, row.gear, row.lamp, decoder.code.n(), &Ok(word.clone()));
+            writing_gives(&decoder.code.params, row.gear, row.lamp, decoder.code.length(), &Ok(word.clone()));
             for weight in 0..=t as usize {
-                let received = turned(&word, &random.places(decoder.code.n(), weight));
+                let received = turned(&word, &random.places(decoder.code.length(), weight));
                 assert_eq!(compare(&decoder, &received), Ok((row, word.clone(), weight as u32)));
             }
         }
-        for weight in 0..=decoder.code.n() {
+        for weight in 0..=decoder.code.length() {
             let row = random.pick(&reference::rows());
             let word = decoder.code.encode(&reference::message(row, decoder.code.k()));
-            compare(&decoder, &turned(&word, &random.places(decoder.code.n(), weight))).ok();
+            compare(&decoder, &turned(&word, &random.places(decoder.code.length(), weight))).ok();
         }
     }
     assert!(shapes >= 15, "only {shapes} shapes were wide enough");
@@ -193,9 +166,9 @@ fn messages_that_are_no_rows() {
         assert_eq!(messages.len(), 14 + k - 5);
         for message in messages {
             let weight = random.below(t as usize + 1);
-            let received = turned(&decoder.code.encode(&message), &random.places(decoder.code.n(), weight));
+            let received = turned(&decoder.code.encode(&message), &random.places(decoder.code.length(), weight));
             assert_eq!(compare(&decoder, &received), Err(11), "message {message:?}");
-            for contents in [random.bits(decoder.code.n()), vec![0; decoder.code.n()], received.clone()] {
+            for contents in [random.bits(decoder.code.length()), vec![0; decoder.code.length()], received.clone()] {
                 reading_gives(&decoder.code.params, &received, Lent::holding(&contents), &Err(11));
             }
         }
@@ -214,13 +187,13 @@ fn narrow_codes() {
         }
         narrow += 1;
         for (gear, lamp) in [(0, 1), (1, 0), (7, 0), (3, 1), (u32::MAX, u32::MAX)] {
-            writing_gives(&code.params, gear, lamp, code.n(), &Err(12));
+            writing_gives(&code.params, gear, lamp, code.length(), &Err(12));
         }
         let word = code.encode(&random.bits(code.k()));
         let mut no_bits = word.clone();
-        no_bits[random.below(code.n())] = random.pick(&BAD_BYTES);
-        for received in [word, no_bits, random.bits(code.n())] {
-            reading_gives(&code.params, &received, Lent::marked(code.n()), &Err(12));
+        no_bits[random.below(code.length())] = random.pick(&BAD_BYTES);
+        for received in [word, no_bits, random.bits(code.length())] {
+            reading_gives(&code.params, &received, Lent::marked(code.length()), &Err(12));
         }
     }
     assert!(narrow >= 40, "only {narrow} shapes were narrow");
@@ -236,10 +209,10 @@ fn every_offset() {
             let word = decoder.code.encode(&reference::message(row, decoder.code.k()));
             for omega in 0..field::size(m) {
                 let params = Params { omega, ..decoder.code.params.clone() };
-                let places = random.places(decoder.code.n(), t as usize);
-                writing_gives(&params, row.gear, row.lamp, decoder.code.n(), &Ok(word.clone()));
+                let places = random.places(decoder.code.length(), t as usize);
+                writing_gives(&params, row.gear, row.lamp, decoder.code.length(), &Ok(word.clone()));
                 let expected = Ok((row, word.clone(), t));
-                reading_gives(&params, &turned(&word, &places), Lent::marked(decoder.code.n()), &expected);
+                reading_gives(&params, &turned(&word, &places), Lent::marked(decoder.code.length()), &expected);
             }
         }
     }
@@ -258,7 +231,7 @@ fn buffers_with_other_contents() {
             for contents in [&random.bits(16), &received, &word, &vec![0; 16], &vec![255; 16]] {
                 reading_gives(&code_t(), &received, Lent::holding(contents), &expected);
                 let mut lent = Lent::holding(contents);
-                let answer = library::write(numbers(&code_t()), &code_t().h, row.gear, row.lamp, lent.slice_mut());
+                let answer = library::write(&code_t(), row.gear, row.lamp, lent.slice_mut());
                 assert_eq!(answer, Ok(()));
                 lent.assert_holds(Some(&word));
             }

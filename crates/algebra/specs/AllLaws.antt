@@ -29,6 +29,18 @@ all-true (suc n) p h = ap₂ (λ (a b : Bool). a && b) (all-true n p (λ i l. h 
 pub all-false : (n : ℕ) (p : ℕ → Bool) (i : ℕ) → i < n → p i ≡ false → all n p ≡ false
 all-false n p i h e = refuted (all n p) (λ q. false≢true (sym e ∙ all-is n p q i h))
 
+-- where not all hold, one fails
+pub all-fails : (n : ℕ) (p : ℕ → Bool) → all n p ≡ false → (i : ℕ) × (i < n) × (p i ≡ false)
+unfolding all
+all-fails zero p e = absurd (false≢true (sym e))
+all-fails (suc n) p e = decided (all n p) refl e (all-fails n p)
+  where
+    decided : (b : Bool) → all n p ≡ b → (all n p && p n) ≡ false → (all n p ≡ false → (i : ℕ) × (i < n) × (p i ≡ false))
+        → (i : ℕ) × (i < suc n) × (p i ≡ false)
+    decided true q e ih = (n, omega arith, sym (ap (λ (b : Bool). b && p n) q) ∙ e)
+    decided false q e ih =
+        let (i, l, f) = ih q in (i, omega arith, f)
+
 pub all-cong : (n : ℕ) {p q : ℕ → Bool} → ((i : ℕ) → i < n → p i ≡ q i) → all n p ≡ all n q
 unfolding all
 all-cong zero h = refl

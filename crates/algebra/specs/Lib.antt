@@ -11,6 +11,7 @@ pub mod Sum
 pub mod SumLaws
 pub mod Poly
 pub mod Distinct
+pub mod DistinctLaws
 pub mod Tabulate
 pub mod TabulateLaws
 pub mod Filling

@@ -2,6 +2,7 @@
 use field::Elem;
 use params::Parameters;
 ghost use mathlib.Core.Path.{_≡_};
+ghost use Rattle.columns.specs.Setting.{Setting.wholeCode};
 ghost use Rattle.rows.specs.Answers.{writeAnswer, writeAfter, readAnswer, readAfter};
 ghost use Rattle.wire.specs.Wire.{code, outcomeCode, readingCode};
 
@@ -16,8 +17,8 @@ pub extern "C" fn zov_write_row(
     lamp: u32,
     word: &mut [u8],
 ) -> u32
-    ensures { λ r. ⌜ r ≡ outcomeCode (writeAnswer (code m n t omega) (now (h .entry)) gear lamp (now (word .entry))) ⌝ }
-    ensures { λ _. ⌜ now (word .exit) ≡ writeAfter (code m n t omega) (now (h .entry)) gear lamp (now (word .entry)) ⌝ }
+    ensures { λ r. ⌜ r ≡ outcomeCode (writeAnswer (code m n t omega) (now (h .entry)) wholeCode gear lamp (now (word .entry))) ⌝ }
+    ensures { λ _. ⌜ now (word .exit) ≡ writeAfter (code m n t omega) (now (h .entry)) wholeCode gear lamp (now (word .entry)) ⌝ }
 {
     wire::outcome_code(rows::write_row(Parameters { m, n, t, omega }, h, gear, lamp, word))
 }
@@ -32,8 +33,13 @@ pub extern "C" fn zov_read_row(
     received: &[u8],
     repaired: &mut [u8],
 ) -> u32
-    ensures { λ r. ⌜ r ≡ readingCode (readAnswer (code m n t omega) (now (h .entry)) (now (received .entry)) (now (repaired .entry))) ⌝ }
-    ensures { λ _. ⌜ now (repaired .exit) ≡ readAfter (code m n t omega) (now (h .entry)) (now (received .entry)) (now (repaired .entry)) ⌝ }
+    ensures { λ r.
+        ⌜ r
+        ≡ readingCode
+        (readAnswer (code m n t omega) (now (h .entry)) wholeCode (now (received .entry)) (now (repaired .entry))) ⌝ }
+    ensures { λ _.
+        ⌜ now (repaired .exit)
+        ≡ readAfter (code m n t omega) (now (h .entry)) wholeCode (now (received .entry)) (now (repaired .entry)) ⌝ }
 {
     wire::reading_code(rows::read_row(Parameters { m, n, t, omega }, h, received, repaired))
 }

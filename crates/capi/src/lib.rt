@@ -7,3 +7,4 @@ pub mod elements;
 pub mod gear_rows;
 pub mod listings;
 pub mod repairing;
+pub mod selections;

@@ -2,6 +2,7 @@
 use field::Elem;
 use params::Parameters;
 ghost use mathlib.Core.Path.{_≡_};
+ghost use Rattle.columns.specs.Setting.{Setting.wholeCode};
 ghost use Rattle.repair.specs.Answers.{repairAnswer, repairAfter};
 ghost use Rattle.wire.specs.Wire.{code, recoveryCode};
 
@@ -15,8 +16,13 @@ pub extern "C" fn zov_repair(
     received: &[u8],
     repaired: &mut [u8],
 ) -> u32
-    ensures { λ r. ⌜ r ≡ recoveryCode (repairAnswer (code m n t omega) (now (h .entry)) (now (received .entry)) (now (repaired .entry))) ⌝ }
-    ensures { λ _. ⌜ now (repaired .exit) ≡ repairAfter (code m n t omega) (now (h .entry)) (now (received .entry)) (now (repaired .entry)) ⌝ }
+    ensures { λ r.
+        ⌜ r
+        ≡ recoveryCode
+        (repairAnswer (code m n t omega) (now (h .entry)) wholeCode (now (received .entry)) (now (repaired .entry))) ⌝ }
+    ensures { λ _.
+        ⌜ now (repaired .exit)
+        ≡ repairAfter (code m n t omega) (now (h .entry)) wholeCode (now (received .entry)) (now (repaired .entry)) ⌝ }
 {
     wire::recovery_code(repair::repair(Parameters { m, n, t, omega }, h, received, repaired))
 }

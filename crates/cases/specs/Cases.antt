@@ -7,6 +7,7 @@ use lib.ListN.{length}
 use Rattle.algebra.specs.All.{all, some}
 use Rattle.algebra.specs.Flags.{both-true}
 use Rattle.algebra.specs.Bits.{bitAt}
+use Rattle.algebra.specs.Distinct.{distinct}
 use Rattle.algebra.specs.Sum.{sum}
 use Rattle.algebra.specs.Tabulate.{tabulate}
 use Rattle.algebra.specs.Xor.{_⊕_}
@@ -26,7 +27,7 @@ use Rattle.dyadic.specs.Block.{blockProduct, total, quotient, blockInverse}
 use Rattle.params.specs.declared.Parameters.{Parameters}
 use Rattle.params.specs.Code.{codeFault, isLength, isRootCount, shapeRules, codeRules}
 use Rattle.codes.specs.Answers.{checkFault, checkAnswer, supportAfter}
-use Rattle.signature.specs.Tests.{signatureRules, inverseAt, nonzero, noZero, pairKept, affine, linear, distinct}
+use Rattle.signature.specs.Tests.{signatureRules, inverseAt, nonzero, noZero, pairKept, affine, linear}
 use Rattle.signature.specs.Signature.{rootAt, supportAt}
 use Rattle.algebra.specs.Lists.{sameEntry, sameList}
 use Rattle.algebra.specs.ListLaws.{sameList-is}
@@ -34,6 +35,7 @@ use Rattle.messages.specs.MessageRules.{messageRules}
 use Rattle.words.specs.Answers.{encodeFault, encodeAnswer, encodeAfter}
 use Rattle.parity.specs.Columns.{wordOf, isSumOf, isSum, isMessageColumn, dimension, messageOf, encodingOf}
 use Rattle.algebra.specs.Places.{count, chosen, found}
+use Rattle.columns.specs.Setting.{Setting.wholeCode, columnsOf, settingRules}
 use Rattle.parity.specs.Word.{whole, parityAt, held, syndromeAt, isCodeWord}
 use Rattle.slices.specs.Bits.{allBits}
 use Rattle.nearest.specs.Repair.{differs, distance, isNear, isRepairable, repairedOf}
@@ -85,10 +87,12 @@ signatureA : List ℕ
 signatureA = 7 ∷ 2 ∷ 3 ∷ 4 ∷ []
 
 encodingA : List ℕ → List ℕ
-encodingA message = outcome (encodeAnswer (card 3 4) signatureA message (marked 4)) (encodeAfter (card 3 4) signatureA message (marked 4))
+encodingA message =
+    outcome (encodeAnswer (card 3 4) signatureA wholeCode message (marked 4)) (encodeAfter (card 3 4) signatureA wholeCode message (marked 4))
 
 repairA : List ℕ → List ℕ
-repairA received = recovery (repairAnswer (card 3 4) signatureA received (marked 4)) (repairAfter (card 3 4) signatureA received (marked 4))
+repairA received =
+    recovery (repairAnswer (card 3 4) signatureA wholeCode received (marked 4)) (repairAfter (card 3 4) signatureA wholeCode received (marked 4))
 
 -- ---- the table
 
@@ -136,7 +140,7 @@ agreeing (c ∷ cs) e =
     let (here, rest) = both-true (sameList (c .given) (c .said)) (agree cs) e in (sameList-is (c .given) (c .said) .0 here, agreeing cs rest)
 
 table-agrees : agree table ≡ true
-unfolding agree table is element outcome recovery marked card blockProductOf blockInverseOf signatureOf signatureA encodingA repairA elementRules pairFault productAnswer inverseFault inverseAnswer polyProduct cutBack remainder product squares inverse fault unless-refused isWidth isElement words word allElements isPower sizeRules blockRules blockPairRules inverseRules blockPairFault blockInverseFault blockProductAnswer blockProductAfter blockInverseAnswer blockInverseAfter blockProduct total quotient blockInverse codeFault checkFault checkAnswer supportAfter isLength isRootCount shapeRules signatureRules codeRules rootAt supportAt inverseAt nonzero noZero pairKept affine linear distinct messageRules encodeFault encodeAnswer encodeAfter count chosen wordOf found sameList sameEntry isSumOf isSum isMessageColumn dimension messageOf encodingOf whole allBits parityAt held syndromeAt isCodeWord wordRules turnedCount repairFault repairAnswer repairAfter distance isNear isRepairable differs repairedOf all some bitAt sum tabulate _⊕_
+unfolding agree table is element outcome recovery marked card blockProductOf blockInverseOf signatureOf signatureA encodingA repairA elementRules pairFault productAnswer inverseFault inverseAnswer polyProduct cutBack remainder product squares inverse fault unless-refused isWidth isElement words word allElements isPower sizeRules blockRules blockPairRules inverseRules blockPairFault blockInverseFault blockProductAnswer blockProductAfter blockInverseAnswer blockInverseAfter blockProduct total quotient blockInverse codeFault checkFault checkAnswer supportAfter isLength isRootCount shapeRules signatureRules codeRules rootAt supportAt inverseAt nonzero noZero pairKept affine linear distinct messageRules encodeFault encodeAnswer encodeAfter count chosen wordOf found sameList sameEntry isSumOf isSum isMessageColumn dimension messageOf encodingOf whole columnsOf settingRules allBits parityAt held syndromeAt isCodeWord wordRules turnedCount repairFault repairAnswer repairAfter distance isNear isRepairable differs repairedOf all some bitAt sum tabulate _⊕_
 table-agrees = refl
 
 pub table-holds : Hold table

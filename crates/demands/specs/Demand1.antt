@@ -2,13 +2,14 @@
 -- brings back its number from the table in 01 with each buffer unchanged."
 --
 -- That every call ends is part of its proof. Of each call there is said here that a refusal leaves each buffer as it was (`..-unchanged`); and that
--- it gives its value exactly if all its rules hold, is refused otherwise, and by the lowest number that applies (`..-refuses`). The rules of five
--- calls come in parts, since 01 has exceptions from the lowest number: 12 comes after 7 and before all others (`write-row`, `read-row`), the 2 of a
--- message's length comes after 7 and before 8 (`encode`, `message`), and 13 comes first, and the 2 of a short buffer last, for a sheet (`listing`).
+-- it gives its value exactly if all its rules hold, is refused otherwise, and by the lowest number that applies (`..-refuses`). The rules of calls on
+-- words and on sheets come in parts, since there are exceptions from the lowest number: the 2, 14 and 15 of a selection come after 7; 12 comes after
+-- these and before all others (`write-row`, `read-row`); the 2 of a message's length comes after 7, 14 and 15 and before 8 (`encode`, `message`);
+-- and 13 comes first, and the 2 of a short buffer last, for a sheet (`listing`).
 use mathlib.Core.Path.{_≡_, refl, sym, ap₂, subst}
 use mathlib.Core.Logic.{_≢_, _↔_, _⊎_, inl, inr}
-use mathlib.Core.Bool.{true, not, _&&_}
-use mathlib.Core.List.{List, [], _∷_, _++_}
+use mathlib.Core.Bool.{Bool, true, not, _&&_}
+use mathlib.Core.List.{List, [], _∷_, _++_, append-assoc, append-nil}
 use Prim.Native.Nat.{ℕ}
 use native.Mathlib.Omega.{arith}
 use lib.Dec.{eqb, leb}
@@ -36,8 +37,8 @@ use Rattle.codes.specs.declared.Sameness.the-variants.{Refused as NotCompared}
 use Rattle.codes.specs.Answers.{checkFault, checkAnswer, rootsAfter, supportAfter, lowest as lower, compared, sameFault, sameAnswer}
 use Rattle.codes.specs.Lowest.{lowest-none, lowest-is}
 use Rattle.codes.specs.Same.{sameCode}
-use Rattle.parity.specs.Columns.{messageLength}
-use Rattle.parity.specs.Word.{whole}
+use Rattle.parity.specs.Columns.{dimension}
+use Rattle.columns.specs.Setting.{Setting, Setting.wholeCode, Setting.selection, places, columnsOf, selectionRules, settingRules}
 use Rattle.messages.specs.MessageRules.{messageRules}
 use Rattle.words.specs.Answers.{bitRules, rolesFault, rolesAnswer, rolesAfter, syndromeFault, syndromeAnswer, syndromeAfter}
 use Rattle.words.specs.Answers.{encodeFault, encodeAnswer, encodeAfter, messageFault, messageAnswer, messageAfter}
@@ -192,101 +193,166 @@ module _ (c₁ : Parameters) (h₁ : List ℕ) (c₂ : Parameters) (h₂ : List 
       either (inl (is, ne)) = inl (subst (λ (i : ℕ). Fails i rules₁) (sym is) (lowest rules₁ refl ne .fails))
       either (inr (is, ne)) = inr (subst (λ (i : ℕ). Fails i rules₂) (sym is) (lowest rules₂ refl ne .fails))
 
+-- ---- calls on words, at any setting: for the whole code, or for a selection
+
+-- what comes before the call's own rules: a selection's come after 7, "and before 12"
+abbrev pub settingParts : Parameters → List ℕ → Setting → Bool → Bool → List (List Rule)
+settingParts c h wholeCode others words = codeRules (others && words) c h ∷ []
+settingParts c h (selection blocks shifts) others words = codeRules others c h ∷ selectionRules c blocks shifts words ∷ []
+
+module _ (c : Parameters) (h : List ℕ) where
+  parts-are : (s : Setting) (others words : Bool) (more : List (List Rule))
+      → allRules (settingParts c h s others words ++ more) ≡ settingRules c h s others words ++ allRules more
+  unfolding settingRules
+  parts-are wholeCode others words more = refl
+  parts-are (selection blocks shifts) others words more =
+      sym (append-assoc (codeRules others c h) (selectionRules c blocks shifts words) (allRules more))
+
+  parts-rise : (s : Setting) (others words : Bool) (more : List (List Rule)) → risingParts more ≡ true
+      → risingParts (settingParts c h s others words ++ more) ≡ true
+  unfolding codeRules shapeRules signatureRules selectionRules
+  parts-rise wholeCode others words more r = r
+  parts-rise (selection blocks shifts) others words more r = r
+
+  module _ {A : Type 0} (refused : ℕ → A) (value : A) (apart : (k : ℕ) → refused k ≢ value) (same : (i j : ℕ) → refused i ≡ refused j → i ≡ j) where
+    setting-refuses : (s : Setting) (others words : Bool) (more : List (List Rule)) → risingParts more ≡ true
+        → RefusesInOrder (unless-refused (fault (settingRules c h s others words ++ allRules more)) refused value) refused value
+        (settingParts c h s others words ++ more)
+    setting-refuses s others words more r =
+        subst
+        (λ (rules : List Rule).
+        RefusesInOrder (unless-refused (fault rules) refused value) refused value (settingParts c h s others words ++ more))
+        (parts-are s others words more)
+        (refuses-in-order refused value apart same (settingParts c h s others words ++ more) (parts-rise s others words more r))
+
 -- ---- words
 
-module _ (c : Parameters) (h out : List ℕ) where
-  pub roles-unchanged : {k : ℕ} → rolesAnswer c h out ≡ NotCounted k → rolesAfter c h out ≡ out
+module _ (c : Parameters) (h : List ℕ) (s : Setting) (out : List ℕ) where
+  pub roles-unchanged : {k : ℕ} → rolesAnswer c h s out ≡ NotCounted k → rolesAfter c h s out ≡ out
   unfolding rolesAnswer rolesAfter
-  roles-unchanged e = refused-leaves NotCounted _ (counted-apart _) (rolesFault c h out) out _ e
+  roles-unchanged e = refused-leaves NotCounted _ (counted-apart _) (rolesFault c h s out) out _ e
 
-  pub roles-refuses : Refuses (rolesAnswer c h out) NotCounted (Count (messageLength c h)) (codeRules (eqb (length out) (c .n)) c h)
-  unfolding rolesAnswer rolesFault codeRules shapeRules signatureRules
-  roles-refuses = refuses NotCounted _ (counted-apart _) same-counted (codeRules (eqb (length out) (c .n)) c h) refl
+  pub roles-refuses : RefusesInOrder (rolesAnswer c h s out) NotCounted (Count (dimension c h (columnsOf c s)))
+      (settingParts c h s true (eqb (length out) (places c s)) ++ [])
+  unfolding rolesAnswer rolesFault
+  roles-refuses =
+      let rules = settingRules c h s true (eqb (length out) (places c s)) in
+      subst
+      (λ (all : List Rule).
+      RefusesInOrder (unless-refused (fault all) NotCounted (Count (dimension c h (columnsOf c s)))) NotCounted
+      (Count (dimension c h (columnsOf c s))) (settingParts c h s true (eqb (length out) (places c s)) ++ []))
+      (append-nil rules)
+      (setting-refuses c h NotCounted _ (counted-apart _) same-counted s true (eqb (length out) (places c s)) [] refl)
 
-module _ (c : Parameters) (h word out : List ℕ) where
-  pub syndrome-unchanged : {k : ℕ} → syndromeAnswer c h word out ≡ Refused k → syndromeAfter c h word out ≡ out
+module _ (c : Parameters) (h : List ℕ) (s : Setting) (word out : List ℕ) where
+  pub syndrome-unchanged : {k : ℕ} → syndromeAnswer c h s word out ≡ Refused k → syndromeAfter c h s word out ≡ out
   unfolding syndromeAnswer syndromeAfter
-  syndrome-unchanged e = refused-leaves Refused Done done-apart (syndromeFault c h word out) out _ e
+  syndrome-unchanged e = refused-leaves Refused Done done-apart (syndromeFault c h s word out) out _ e
 
-  pub syndrome-refuses : Refuses (syndromeAnswer c h word out) Refused Done
-      (codeRules (eqb (length word) (c .n) && eqb (length out) (c .t)) c h ++ bitRules word)
-  unfolding syndromeAnswer syndromeFault codeRules shapeRules signatureRules bitRules
+  pub syndrome-refuses : RefusesInOrder (syndromeAnswer c h s word out) Refused Done
+      (settingParts c h s (eqb (length out) (c .t)) (eqb (length word) (places c s)) ++ bitRules word ∷ [])
+  unfolding syndromeAnswer syndromeFault bitRules
   syndrome-refuses =
-      refuses Refused Done done-apart same-outcome
-      (codeRules (eqb (length word) (c .n) && eqb (length out) (c .t)) c h ++ bitRules word) refl
+      setting-refuses c h Refused Done done-apart same-outcome s (eqb (length out) (c .t)) (eqb (length word) (places c s)) (bitRules word ∷ []) refl
 
-module _ (c : Parameters) (h message word : List ℕ) where
-  pub encode-unchanged : {k : ℕ} → encodeAnswer c h message word ≡ Refused k → encodeAfter c h message word ≡ word
+module _ (c : Parameters) (h : List ℕ) (s : Setting) (message word : List ℕ) where
+  pub encode-unchanged : {k : ℕ} → encodeAnswer c h s message word ≡ Refused k → encodeAfter c h s message word ≡ word
   unfolding encodeAnswer encodeAfter
-  encode-unchanged e = refused-leaves Refused Done done-apart (encodeFault c h message word) word _ e
+  encode-unchanged e = refused-leaves Refused Done done-apart (encodeFault c h s message word) word _ e
 
   -- "a wrong one is then 2, before 8"
-  pub encode-refuses : RefusesInOrder (encodeAnswer c h message word) Refused Done
-      (codeRules (eqb (length word) (c .n)) c h ∷ messageRules (messageLength c h) (length message) (allBits message) ∷ [])
-  unfolding encodeAnswer encodeFault codeRules shapeRules signatureRules messageRules
+  pub encode-refuses : RefusesInOrder (encodeAnswer c h s message word) Refused Done
+      (settingParts c h s true (eqb (length word) (places c s))
+      ++ messageRules (dimension c h (columnsOf c s)) (length message) (allBits message) ∷ [])
+  unfolding encodeAnswer encodeFault messageRules
   encode-refuses =
-      refuses-in-order Refused Done done-apart same-outcome
-      (codeRules (eqb (length word) (c .n)) c h ∷ messageRules (messageLength c h) (length message) (allBits message) ∷ []) refl
+      setting-refuses c h Refused Done done-apart same-outcome s true (eqb (length word) (places c s))
+      (messageRules (dimension c h (columnsOf c s)) (length message) (allBits message) ∷ []) refl
 
-  pub message-unchanged : {k : ℕ} → messageAnswer c h word message ≡ Refused k → messageAfter c h word message ≡ message
+  pub message-unchanged : {k : ℕ} → messageAnswer c h s word message ≡ Refused k → messageAfter c h s word message ≡ message
   unfolding messageAnswer messageAfter
-  message-unchanged e = refused-leaves Refused Done done-apart (messageFault c h word message) message _ e
+  message-unchanged e = refused-leaves Refused Done done-apart (messageFault c h s word message) message _ e
 
-  pub message-refuses : RefusesInOrder (messageAnswer c h word message) Refused Done
-      (codeRules (eqb (length word) (c .n)) c h ∷ messageRules (messageLength c h) (length message) (allBits word) ∷ [])
-  unfolding messageAnswer messageFault codeRules shapeRules signatureRules messageRules
+  pub message-refuses : RefusesInOrder (messageAnswer c h s word message) Refused Done
+      (settingParts c h s true (eqb (length word) (places c s))
+      ++ messageRules (dimension c h (columnsOf c s)) (length message) (allBits word) ∷ [])
+  unfolding messageAnswer messageFault messageRules
   message-refuses =
-      refuses-in-order Refused Done done-apart same-outcome
-      (codeRules (eqb (length word) (c .n)) c h ∷ messageRules (messageLength c h) (length message) (allBits word) ∷ []) refl
+      setting-refuses c h Refused Done done-apart same-outcome s true (eqb (length word) (places c s))
+      (messageRules (dimension c h (columnsOf c s)) (length message) (allBits word) ∷ []) refl
 
 -- ---- repair
 
-module _ (c : Parameters) (h received repaired : List ℕ) where
-  pub repair-unchanged : {k : ℕ} → repairAnswer c h received repaired ≡ NotRepaired k → repairAfter c h received repaired ≡ repaired
+module _ (c : Parameters) (h : List ℕ) (s : Setting) (received repaired : List ℕ) where
+  pub repair-unchanged : {k : ℕ} → repairAnswer c h s received repaired ≡ NotRepaired k → repairAfter c h s received repaired ≡ repaired
   unfolding repairAnswer repairAfter
-  repair-unchanged e = refused-leaves NotRepaired _ (repaired-apart _) (repairFault c h received repaired) repaired _ e
+  repair-unchanged e = refused-leaves NotRepaired _ (repaired-apart _) (repairFault c h s received repaired) repaired _ e
 
-  pub repair-refuses : Refuses (repairAnswer c h received repaired) NotRepaired (Repaired (turnedCount c h (whole (c .n)) received))
-      (codeRules (eqb (length received) (c .n) && eqb (length repaired) (c .n)) c h ++ wordRules c h (whole (c .n)) received)
-  unfolding repairAnswer repairFault codeRules shapeRules signatureRules wordRules
+  pub repair-refuses : RefusesInOrder (repairAnswer c h s received repaired) NotRepaired (Repaired (turnedCount c h (columnsOf c s) received))
+      (settingParts c h s true (eqb (length received) (places c s) && eqb (length repaired) (places c s))
+      ++ wordRules c h (columnsOf c s) received ∷ [])
+  unfolding repairAnswer repairFault wordRules
   repair-refuses =
+      setting-refuses c h NotRepaired _ (repaired-apart _) same-recovery s true
+      (eqb (length received) (places c s) && eqb (length repaired) (places c s)) (wordRules c h (columnsOf c s) received ∷ []) refl
+
+-- ---- of the whole code, roles, syndrome and repair give the lowest number that applies to any of their rules
+
+module _ (c : Parameters) (h : List ℕ) where
+  pub roles-lowest : (out : List ℕ)
+      → Refuses (rolesAnswer c h wholeCode out) NotCounted (Count (dimension c h (columnsOf c wholeCode))) (codeRules (eqb (length out) (c .n)) c h)
+  unfolding rolesAnswer rolesFault settingRules codeRules shapeRules signatureRules
+  roles-lowest out = refuses NotCounted _ (counted-apart _) same-counted (codeRules (eqb (length out) (c .n)) c h) refl
+
+  pub syndrome-lowest : (word out : List ℕ) → Refuses (syndromeAnswer c h wholeCode word out) Refused Done
+      (codeRules (eqb (length out) (c .t) && eqb (length word) (c .n)) c h ++ bitRules word)
+  unfolding syndromeAnswer syndromeFault settingRules codeRules shapeRules signatureRules bitRules
+  syndrome-lowest word out =
+      refuses Refused Done done-apart same-outcome
+      (codeRules (eqb (length out) (c .t) && eqb (length word) (c .n)) c h ++ bitRules word) refl
+
+  pub repair-lowest : (received repaired : List ℕ)
+      → Refuses (repairAnswer c h wholeCode received repaired) NotRepaired (Repaired (turnedCount c h (columnsOf c wholeCode) received))
+      (codeRules (eqb (length received) (c .n) && eqb (length repaired) (c .n)) c h ++ wordRules c h (columnsOf c wholeCode) received)
+  unfolding repairAnswer repairFault settingRules codeRules shapeRules signatureRules wordRules
+  repair-lowest received repaired =
       refuses NotRepaired _ (repaired-apart _) same-recovery
-      (codeRules (eqb (length received) (c .n) && eqb (length repaired) (c .n)) c h ++ wordRules c h (whole (c .n)) received) refl
+      (codeRules (eqb (length received) (c .n) && eqb (length repaired) (c .n)) c h ++ wordRules c h (columnsOf c wholeCode) received) refl
 
 -- ---- gear rows: "12 comes after 7 and before 8"
 
--- 12 alone, then the others
-abbrev pub writeParts : Parameters → List ℕ → ℕ → ℕ → List (List Rule)
-writeParts c h gear lamp =
-    ((12 unless leb rowBits (messageLength c h)) ∷ []) ∷ ((11 unless isRow gear lamp) ∷ []) ∷ []
+module _ (c : Parameters) (h cols : List ℕ) where
+  -- 12 alone, then the others
+  abbrev pub writeParts : ℕ → ℕ → List (List Rule)
+  writeParts gear lamp = ((12 unless leb rowBits (dimension c h cols)) ∷ []) ∷ ((11 unless isRow gear lamp) ∷ []) ∷ []
 
-abbrev pub readParts : Parameters → List ℕ → List ℕ → List (List Rule)
-readParts c h received =
-    ((12 unless leb rowBits (messageLength c h)) ∷ [])
-    ∷ (wordRules c h (whole (c .n)) received ++ (11 unless isRowMessage (carried c h (whole (c .n)) received)) ∷ []) ∷ []
+  abbrev pub readParts : List ℕ → List (List Rule)
+  readParts received =
+      ((12 unless leb rowBits (dimension c h cols)) ∷ [])
+      ∷ (wordRules c h cols received ++ (11 unless isRowMessage (carried c h cols received)) ∷ []) ∷ []
 
-module _ (c : Parameters) (h : List ℕ) (gear lamp : ℕ) (word : List ℕ) where
-  pub write-row-unchanged : {k : ℕ} → writeAnswer c h gear lamp word ≡ Refused k → writeAfter c h gear lamp word ≡ word
+module _ (c : Parameters) (h : List ℕ) (s : Setting) (gear lamp : ℕ) (word : List ℕ) where
+  pub write-row-unchanged : {k : ℕ} → writeAnswer c h s gear lamp word ≡ Refused k → writeAfter c h s gear lamp word ≡ word
   unfolding writeAnswer writeAfter
-  write-row-unchanged e = refused-leaves Refused Done done-apart (writeFault c h gear lamp word) word _ e
+  write-row-unchanged e = refused-leaves Refused Done done-apart (writeFault c h s gear lamp word) word _ e
 
-  pub write-row-refuses : RefusesInOrder (writeAnswer c h gear lamp word) Refused Done
-      (codeRules (eqb (length word) (c .n)) c h ∷ writeParts c h gear lamp)
-  unfolding writeAnswer writeFault codeRules shapeRules signatureRules writeRules
+  pub write-row-refuses : RefusesInOrder (writeAnswer c h s gear lamp word) Refused Done
+      (settingParts c h s true (eqb (length word) (places c s)) ++ writeParts c h (columnsOf c s) gear lamp)
+  unfolding writeAnswer writeFault writeRules
   write-row-refuses =
-      refuses-in-order Refused Done done-apart same-outcome (codeRules (eqb (length word) (c .n)) c h ∷ writeParts c h gear lamp) refl
+      setting-refuses c h Refused Done done-apart same-outcome s true (eqb (length word) (places c s)) (writeParts c h (columnsOf c s) gear lamp) refl
 
-module _ (c : Parameters) (h received repaired : List ℕ) where
-  pub read-row-unchanged : {k : ℕ} → readAnswer c h received repaired ≡ NotRead k → readAfter c h received repaired ≡ repaired
+module _ (c : Parameters) (h : List ℕ) (s : Setting) (received repaired : List ℕ) where
+  pub read-row-unchanged : {k : ℕ} → readAnswer c h s received repaired ≡ NotRead k → readAfter c h s received repaired ≡ repaired
   unfolding readAnswer readAfter rowRead
-  read-row-unchanged e = refused-leaves NotRead _ (read-apart _ _) (readFault c h received repaired) repaired _ e
+  read-row-unchanged e = refused-leaves NotRead _ (read-apart _ _) (readFault c h s received repaired) repaired _ e
 
-  pub read-row-refuses : RefusesInOrder (readAnswer c h received repaired) NotRead (rowRead c h (whole (c .n)) received)
-      (codeRules (eqb (length received) (c .n) && eqb (length repaired) (c .n)) c h ∷ readParts c h received)
-  unfolding readAnswer readFault rowRead codeRules shapeRules signatureRules readRules wordRules
+  pub read-row-refuses : RefusesInOrder (readAnswer c h s received repaired) NotRead (rowRead c h (columnsOf c s) received)
+      (settingParts c h s true (eqb (length received) (places c s) && eqb (length repaired) (places c s)) ++ readParts c h (columnsOf c s) received)
+  unfolding readAnswer readFault rowRead readRules wordRules
   read-row-refuses =
-      refuses-in-order NotRead _ (read-apart _ _) same-reading
-      (codeRules (eqb (length received) (c .n) && eqb (length repaired) (c .n)) c h ∷ readParts c h received) refl
+      setting-refuses c h NotRead _ (read-apart _ _) same-reading s true
+      (eqb (length received) (places c s) && eqb (length repaired) (places c s)) (readParts c h (columnsOf c s) received) refl
 
 -- ---- sheets: 13 "comes first of all"
 

@@ -2,8 +2,8 @@
 -- its dyadic matrix; such a pair then comes back for every offset. Encoding a message gives the one code word that carries it, and reading that word
 -- gives the message. Block products and inverses are those of the full matrices. State this over the field's width".
 --
--- Every law here is for every width m of the table.
-use mathlib.Core.Path.{_≡_, sym, ap, _∙_, subst}
+-- Every law here is for every width m of the table, and what is said of words is said at every setting: of the whole code, and of every selection.
+use mathlib.Core.Path.{_≡_, refl, sym, ap, _∙_, subst}
 use mathlib.Core.Logic.{_≢_, _↔_}
 use mathlib.Core.Bool.{true, false≢true, not}
 use mathlib.Core.List.{List}
@@ -13,7 +13,6 @@ use native.Mathlib.Omega.{arith}
 use lib.Dec.{eqb}
 use lib.ListN.{length}
 use borrow.Author.Tests.{eq-eqb, ne-eqb, not-true}
-use Rattle.algebra.specs.Flags.{both-hold}
 use Rattle.algebra.specs.Lists.{entryOf}
 use Rattle.algebra.specs.TabulateLaws.{getD-tabulate}
 use Rattle.refusals.specs.Answered.{done-apart, done-none}
@@ -38,12 +37,14 @@ use Rattle.blocks.specs.Answers.{sumAnswer, sumAfter, productAnswer, productAft
 use Rattle.params.specs.declared.Parameters.{Parameters}
 use Rattle.params.specs.Code.{withOffset, Limits, Accepted}
 use Rattle.params.specs.Accepted.{offset-accepted}
-use Rattle.params.specs.Calls.{code-leaves}
 use Rattle.codes.specs.Answers.{checkAnswer, rootsAfter, supportAfter}
 use Rattle.codes.specs.Acceptance.{accepted-done, done-exactly, done-pair, done-short}
-use Rattle.parity.specs.Columns.{messageOf, encodingOf, messageLength}
+use Rattle.parity.specs.Columns.{dimension, messageOf, encodingOf}
 use Rattle.parity.specs.Encoding.{encoding-carries, encoding-only}
-use Rattle.parity.specs.Word.{whole, syndromeAt, syndromeOf}
+use Rattle.parity.specs.Word.{syndromeAt, syndromeOf}
+use Rattle.columns.specs.Fits.{Fits}
+use Rattle.columns.specs.Setting.{Setting, places, columnsOf}
+use Rattle.columns.specs.SettingLaws.{setting-leaves}
 use Rattle.messages.specs.MessageRules.{messageRules}
 use Rattle.words.specs.Answers.{bitRules, syndromeFault, syndromeAnswer, syndromeAfter}
 use Rattle.words.specs.Answers.{encodeFault, encodeAnswer, encodeAfter, messageFault, messageAnswer, messageAfter}
@@ -72,66 +73,67 @@ pair-for-every-offset {c} {h} A ω l roots support r s =
 pub never-above-half : (c : Parameters) (h roots support : List ℕ) → checkAnswer c h roots support ≡ Done → 2 * c .n ≤ 2 ^ c .m
 never-above-half = done-short
 
--- ---- words
+-- ---- words: of the whole code, and of every selection
 
 -- what encoding leaves
-pub record Encoded (c : Parameters) (h message word : List ℕ) : Type 0 where
-  pub is-code-word : CodeWord c h word
+pub record Encoded (c : Parameters) (h : List ℕ) (s : Setting) (message word : List ℕ) : Type 0 where
+  pub is-code-word : CodeWord c h s word
   -- "reading that word gives the message"
-  pub reads : (buffer : List ℕ) → length buffer ≡ messageLength c h
-      → (messageAnswer c h word buffer ≡ Done) × (messageAfter c h word buffer ≡ message)
+  pub reads : (buffer : List ℕ) → length buffer ≡ dimension c h (columnsOf c s)
+      → (messageAnswer c h s word buffer ≡ Done) × (messageAfter c h s word buffer ≡ message)
   -- "the one code word that carries it"
-  pub only : (w buffer : List ℕ) → CodeWord c h w → length buffer ≡ messageLength c h → messageAfter c h w buffer ≡ message → w ≡ word
+  pub only : (w buffer : List ℕ) → CodeWord c h s w → length buffer ≡ dimension c h (columnsOf c s) → messageAfter c h s w buffer ≡ message → w ≡ word
 
-module _ {c : Parameters} {h : List ℕ} (A : Accepted c h) where
-  -- taking the message out of a word of n bits is not refused
-  message-taken : (w buffer : List ℕ) → length w ≡ c .n → Bits w → length buffer ≡ messageLength c h
-      → (messageAnswer c h w buffer ≡ Done) × (messageAfter c h w buffer ≡ messageOf c h (whole (c .n)) w)
+module _ {c : Parameters} {h : List ℕ} (A : Accepted c h) (s : Setting) (F : Fits c s) where
+  abbrev k : ℕ
+  k = dimension c h (columnsOf c s)
+
+  -- taking the message out of a word of bits is not refused
+  message-taken : (w buffer : List ℕ) → length w ≡ places c s → Bits w → length buffer ≡ k
+      → (messageAnswer c h s w buffer ≡ Done) × (messageAfter c h s w buffer ≡ messageOf c h (columnsOf c s) w)
   unfolding messageAnswer messageAfter messageFault messageRules
   message-taken w buffer long bits fits =
       let none =
-      code-leaves A (eq-eqb (length w) (c .n) long) (messageRules (messageLength c h) (length buffer) (allBits w))
-      ∙ fault-none (messageRules (messageLength c h) (length buffer) (allBits w))
-      (eq-eqb (length buffer) (messageLength c h) fits, (bits-are w .1 bits, tt)) in
-      (given Refused Done none, given (λ k. buffer) (messageOf c h (whole (c .n)) w) none)
+      setting-leaves A s F refl (eq-eqb (length w) (places c s) long) (messageRules k (length buffer) (allBits w))
+      ∙ fault-none (messageRules k (length buffer) (allBits w)) (eq-eqb (length buffer) k fits, (bits-are w .1 bits, tt)) in
+      (given Refused Done none, given (λ k. buffer) (messageOf c h (columnsOf c s) w) none)
 
   -- "Encoding a message gives the one code word that carries it, and reading that word gives the message."
-  pub encoded : (message word : List ℕ) → length message ≡ messageLength c h → Bits message → length word ≡ c .n
-      → (encodeAnswer c h message word ≡ Done) × Encoded c h message (encodeAfter c h message word)
+  pub encoded : (message word : List ℕ) → length message ≡ dimension c h (columnsOf c s) → Bits message → length word ≡ places c s
+      → (encodeAnswer c h s message word ≡ Done) × Encoded c h s message (encodeAfter c h s message word)
   unfolding encodeAnswer encodeAfter encodeFault messageRules
   encoded message word fits bits long =
       let none =
-      code-leaves A (eq-eqb (length word) (c .n) long) (messageRules (messageLength c h) (length message) (allBits message))
-      ∙ fault-none (messageRules (messageLength c h) (length message) (allBits message))
-      (eq-eqb (length message) (messageLength c h) fits, (bits-are message .1 bits, tt)) in
-      (given Refused Done none, subst (Encoded c h message) (sym (given (λ k. word) (encodingOf c h (whole (c .n)) message) none)) carried)
+      setting-leaves A s F refl (eq-eqb (length word) (places c s) long) (messageRules k (length message) (allBits message))
+      ∙ fault-none (messageRules k (length message) (allBits message)) (eq-eqb (length message) k fits, (bits-are message .1 bits, tt)) in
+      (given Refused Done none, subst (Encoded c h s message) (sym (given (λ k. word) (encodingOf c h (columnsOf c s) message) none)) carried)
     where
-      carried : Encoded c h message (encodingOf c h (whole (c .n)) message)
+      carried : Encoded c h s message (encodingOf c h (columnsOf c s) message)
       carried =
-          let cols = whole (c .n) in
+          let cols = columnsOf c s in
           let coded = encodingOf c h cols message in
           let W = A .limits .width in
           let (b, k, q) = encoding-carries c h cols W message fits bits in
-          let C = code-word c h coded (record { bits = b; code = k }) in
+          let C = code-word c h s coded (record { bits = b; code = k }) in
           record {
             is-code-word = C;
             reads = λ buffer room. let (done, after) = message-taken coded buffer (C .long) (C .bits) room in (done, after ∙ q);
             only = λ w buffer D room e.
-                let on = code-word-on c h w D in
+                let on = code-word-on c h s w D in
                 encoding-only c h cols W message w fits bits (on .bits) (on .code)
                 (sym (message-taken w buffer (D .long) (D .bits) room .1) ∙ e);
           }
 
   -- 01: "Its syndrome is those t sums"; they are all zero exactly if the word is a code word
-  pub zero-syndrome : (word out : List ℕ) → length word ≡ c .n → Bits word → length out ≡ c .t
-      → (syndromeAnswer c h word out ≡ Done)
-      × (((i : ℕ) → i < c .t → entryOf (syndromeAfter c h word out) i ≡ 0) ↔ CodeWord c h word)
+  pub zero-syndrome : (word out : List ℕ) → length word ≡ places c s → Bits word → length out ≡ c .t
+      → (syndromeAnswer c h s word out ≡ Done)
+      × (((i : ℕ) → i < c .t → entryOf (syndromeAfter c h s word out) i ≡ 0) ↔ CodeWord c h s word)
   unfolding syndromeAnswer syndromeAfter syndromeFault bitRules syndromeOf
   zero-syndrome word out long bits fits =
       let none =
-      code-leaves A (both-hold (eq-eqb (length word) (c .n) long) (eq-eqb (length out) (c .t) fits)) (bitRules word)
+      setting-leaves A s F (eq-eqb (length out) (c .t) fits) (eq-eqb (length word) (places c s) long) (bitRules word)
       ∙ fault-none (bitRules word) (bits-are word .1 bits, tt) in
-      let after = given (λ k. out) (syndromeOf c h (whole (c .n)) word) none in (
+      let after = given (λ k. out) (syndromeOf c h (columnsOf c s) word) none in (
         given Refused Done none,
         (
           λ z. record { long = long; bits = bits; zero = λ i l. sym (at i l) ∙ ap (λ (x : List ℕ). entryOf x i) (sym after) ∙ z i l },
@@ -139,8 +141,8 @@ module _ {c : Parameters} {h : List ℕ} (A : Accepted c h) where
         ),
       )
     where
-      at : (i : ℕ) → i < c .t → entryOf (syndromeOf c h (whole (c .n)) word) i ≡ syndromeAt c h (whole (c .n)) word i
-      at i l = getD-tabulate (c .t) (syndromeAt c h (whole (c .n)) word) i 0 l
+      at : (i : ℕ) → i < c .t → entryOf (syndromeOf c h (columnsOf c s) word) i ≡ syndromeAt c h (columnsOf c s) word i
+      at i l = getD-tabulate (c .t) (syndromeAt c h (columnsOf c s) word) i 0 l
 
 -- ---- blocks: "Block products and inverses are those of the full matrices."
 

@@ -3,7 +3,7 @@
 use mathlib.Core.Path.{_≡_, refl, sym, ap, _∙_, subst}
 use mathlib.Core.Logic.{_≢_}
 use mathlib.Core.Bool.{Bool, true, false, _&&_, not}
-use mathlib.Core.List.{List, [], _∷_, _++_}
+use mathlib.Core.List.{List, [], _∷_, _++_, append-nil}
 use Prim.Native.Nat.{ℕ, zero, suc, _-_, _%_, _^_, _<_, _≤_}
 use native.Mathlib.Nat.{mod-eq-of-lt}
 use native.Mathlib.Omega.{arith}
@@ -31,16 +31,16 @@ use Rattle.blocks.specs.Answers.{sizeRules, blockRules, pairRules, inverseRules
 use Rattle.blocks.specs.Answers.{sumAnswer as blockSumAnswer, productAnswer as blockProductAnswer, inverseAnswer as blockInverseAnswer}
 use Rattle.signature.specs.Tests.{signatureRules}
 use Rattle.params.specs.declared.Parameters.{Parameters}
-use Rattle.params.specs.Accepted.{accepted, n-short}
+use Rattle.params.specs.Accepted.{n-short}
 use Rattle.params.specs.Code.{shapeRules, codeRules, codeFault}
 use Rattle.codes.specs.declared.Sameness.the-variants.{Refused as NotCompared}
 use Rattle.codes.specs.Answers.{checkFault, checkAnswer, lowest, compared, sameFault, sameAnswer}
 use Rattle.codes.specs.Lowest.{lowest-le}
 use Rattle.codes.specs.Same.{sameCode}
-use Rattle.parity.specs.Columns.{messageLength}
-use Rattle.parity.specs.ColumnLaws.{messageLength-le}
-use Rattle.parity.specs.Selected.{length-whole}
-use Rattle.parity.specs.Word.{whole}
+use Rattle.parity.specs.Columns.{dimension}
+use Rattle.parity.specs.ColumnLaws.{dimension-le}
+use Rattle.columns.specs.Setting.{Setting, Setting.wholeCode, Setting.selection, places, columnsOf, selectionRules, settingRules}
+use Rattle.columns.specs.SettingLaws.{setting-accepted, length-columns, places-short}
 use Rattle.messages.specs.MessageRules.{messageRules}
 use Rattle.words.specs.Answers.{bitRules, rolesFault, rolesAnswer, syndromeFault, syndromeAnswer}
 use Rattle.words.specs.Answers.{encodeFault, encodeAnswer, messageFault, messageAnswer}
@@ -63,7 +63,7 @@ use Rattle.demands.specs.Outcomes.{compared-apart, same-sameness}
 
 -- the greatest number of 01's table
 abbrev pub greatestNumber : ℕ
-greatestNumber = 13
+greatestNumber = 15
 
 -- C reads a value as it is, and a refusal as a negative number
 abbrev pub IsValue : ℕ → Type 0
@@ -122,23 +122,142 @@ module _ (c : Parameters) (h : List ℕ) where
   unfolding checkAnswer checkFault codeFault codeRules shapeRules signatureRules
   zov-check roots support = outcome-told (codeRules (eqb (length roots) (c .n) && eqb (length support) (c .n)) c h) refl
 
-  pub zov-syndrome : (word out : List ℕ) → ToldApart outcomeCode (syndromeAnswer c h word out) Refused Done
-  unfolding syndromeAnswer syndromeFault codeRules shapeRules signatureRules bitRules
-  zov-syndrome word out = outcome-told (codeRules (eqb (length word) (c .n) && eqb (length out) (c .t)) c h ++ bitRules word) refl
+-- ---- calls on words, at any setting: the functions for the whole code and those for a selection
 
-  pub zov-encode : (message word : List ℕ) → ToldApart outcomeCode (encodeAnswer c h message word) Refused Done
-  unfolding encodeAnswer encodeFault codeRules shapeRules signatureRules messageRules
-  zov-encode message word =
-      outcome-told (codeRules (eqb (length word) (c .n)) c h ++ messageRules (messageLength c h) (length message) (allBits message)) refl
+in-table : (c : Parameters) (h : List ℕ) (s : Setting) (others words : Bool) (more : List Rule) → upTo greatestNumber more ≡ true
+    → upTo greatestNumber (settingRules c h s others words ++ more) ≡ true
+unfolding settingRules codeRules shapeRules signatureRules selectionRules
+in-table c h wholeCode others words more u = u
+in-table c h (selection blocks shifts) others words more u = u
 
-  pub zov-message : (word message : List ℕ) → ToldApart outcomeCode (messageAnswer c h word message) Refused Done
-  unfolding messageAnswer messageFault codeRules shapeRules signatureRules messageRules
-  zov-message word message =
-      outcome-told (codeRules (eqb (length word) (c .n)) c h ++ messageRules (messageLength c h) (length message) (allBits word)) refl
+module _ (c : Parameters) (h : List ℕ) (s : Setting) where
+  syndrome-told : (word out : List ℕ) → ToldApart outcomeCode (syndromeAnswer c h s word out) Refused Done
+  unfolding syndromeAnswer syndromeFault bitRules
+  syndrome-told word out =
+      outcome-told (settingRules c h s (eqb (length out) (c .t)) (eqb (length word) (places c s)) ++ bitRules word)
+      (in-table c h s _ _ (bitRules word) refl)
 
-  pub zov-write-row : (gear lamp : ℕ) (word : List ℕ) → ToldApart outcomeCode (writeAnswer c h gear lamp word) Refused Done
-  unfolding writeAnswer writeFault codeRules shapeRules signatureRules writeRules
-  zov-write-row gear lamp word = outcome-told (codeRules (eqb (length word) (c .n)) c h ++ writeRules c h (whole (c .n)) gear lamp) refl
+  encode-told : (message word : List ℕ) → ToldApart outcomeCode (encodeAnswer c h s message word) Refused Done
+  unfolding encodeAnswer encodeFault messageRules
+  encode-told message word =
+      let own = messageRules (dimension c h (columnsOf c s)) (length message) (allBits message) in
+      outcome-told (settingRules c h s true (eqb (length word) (places c s)) ++ own) (in-table c h s _ _ own refl)
+
+  message-told : (word message : List ℕ) → ToldApart outcomeCode (messageAnswer c h s word message) Refused Done
+  unfolding messageAnswer messageFault messageRules
+  message-told word message =
+      let own = messageRules (dimension c h (columnsOf c s)) (length message) (allBits word) in
+      outcome-told (settingRules c h s true (eqb (length word) (places c s)) ++ own) (in-table c h s _ _ own refl)
+
+  write-row-told : (gear lamp : ℕ) (word : List ℕ) → ToldApart outcomeCode (writeAnswer c h s gear lamp word) Refused Done
+  unfolding writeAnswer writeFault writeRules
+  write-row-told gear lamp word =
+      let own = writeRules c h (columnsOf c s) gear lamp in
+      outcome-told (settingRules c h s true (eqb (length word) (places c s)) ++ own) (in-table c h s _ _ own refl)
+
+  -- what is no more than the places of a word, of a call that is not refused
+  count-value : (others words : Bool) (more : List Rule) → fault (settingRules c h s others words ++ more) ≡ 0 → {x : ℕ} → x ≤ places c s → IsValue x
+  count-value others words more none l =
+      let (o, w, A, F) = setting-accepted c h s others words (first-holds (settingRules c h s others words) more none) in
+      let short = places-short A s F in
+      omega arith
+
+  roles-told : (out : List ℕ) → ToldApart countedCode (rolesAnswer c h s out) NotCounted (Count (dimension c h (columnsOf c s)))
+  unfolding rolesAnswer rolesFault
+  roles-told out =
+      let words = eqb (length out) (places c s) in
+      let rules = settingRules c h s true words in
+      told-apart countedCode NotCounted (Count (dimension c h (columnsOf c s))) (counted-apart _) same-counted (λ k. refl) (fault rules)
+      (fault-up-to greatestNumber rules
+      (subst (λ (all : List Rule). upTo greatestNumber all ≡ true) (append-nil rules) (in-table c h s true words [] refl)))
+      (λ none.
+      count-value true words [] (ap fault (append-nil rules) ∙ none)
+      (subst (λ (k : ℕ). dimension c h (columnsOf c s) ≤ k) (length-columns c s) (dimension-le c h (columnsOf c s))))
+
+  repair-told : (received repaired : List ℕ)
+      → ToldApart recoveryCode (repairAnswer c h s received repaired) NotRepaired (Repaired (turnedCount c h (columnsOf c s) received))
+  unfolding repairAnswer repairFault wordRules turnedCount distance
+  repair-told received repaired =
+      let words = (eqb (length received) (places c s) && eqb (length repaired) (places c s)) in
+      let own = wordRules c h (columnsOf c s) received in
+      let rules = settingRules c h s true words ++ own in
+      told-apart recoveryCode NotRepaired (Repaired (turnedCount c h (columnsOf c s) received)) (repaired-apart _) same-recovery (λ k. refl)
+      (fault rules) (fault-up-to greatestNumber rules (in-table c h s true words own refl))
+      (λ none.
+      count-value true words own none
+      (subst (λ (k : ℕ). turnedCount c h (columnsOf c s) received ≤ k) (length-columns c s)
+      (count-le (length (columnsOf c s)) (differs received (repairedOf c h (columnsOf c s) received)))))
+
+  -- a row that is read, and a refusal
+  abbrev ReadToldApart : List ℕ → List ℕ → Type 0
+  ReadToldApart received repaired =
+      ((row : Row) (count : ℕ) → readAnswer c h s received repaired ≡ Read row count → IsValue (readingCode (readAnswer c h s received repaired)))
+      × ((k : ℕ) → readAnswer c h s received repaired ≡ NotRead k → IsRefusal (readingCode (readAnswer c h s received repaired)))
+
+  read-row-told : (received repaired : List ℕ) → ReadToldApart received repaired
+  unfolding readAnswer readFault rowRead readRules wordRules
+  read-row-told received repaired = (
+    λ row count e. subst IsValue (ap readingCode (sym e)) (reading-whole c h s received repaired row count e .1),
+    λ k e.
+        let words = (eqb (length received) (places c s) && eqb (length repaired) (places c s)) in
+        let own = readRules c h (columnsOf c s) received in
+        let rules = settingRules c h s true words ++ own in
+        let (ne, is) = refused-due NotRead _ (read-apart _ _) same-reading (fault rules) e in
+        subst IsRefusal (ap readingCode (sym e))
+        (minus-refuses k (λ z. ne (is ∙ z))
+        (subst (λ (i : ℕ). i ≤ greatestNumber) is (fault-up-to greatestNumber rules (in-table c h s true words own refl)))),
+  )
+
+module _ (c : Parameters) (h : List ℕ) where
+  pub zov-roles : (out : List ℕ) → ToldApart countedCode (rolesAnswer c h wholeCode out) NotCounted (Count (dimension c h (columnsOf c wholeCode)))
+  zov-roles = roles-told c h wholeCode
+
+  pub zov-syndrome : (word out : List ℕ) → ToldApart outcomeCode (syndromeAnswer c h wholeCode word out) Refused Done
+  zov-syndrome = syndrome-told c h wholeCode
+
+  pub zov-encode : (message word : List ℕ) → ToldApart outcomeCode (encodeAnswer c h wholeCode message word) Refused Done
+  zov-encode = encode-told c h wholeCode
+
+  pub zov-message : (word message : List ℕ) → ToldApart outcomeCode (messageAnswer c h wholeCode word message) Refused Done
+  zov-message = message-told c h wholeCode
+
+  pub zov-repair : (received repaired : List ℕ)
+      → ToldApart recoveryCode (repairAnswer c h wholeCode received repaired) NotRepaired
+      (Repaired (turnedCount c h (columnsOf c wholeCode) received))
+  zov-repair = repair-told c h wholeCode
+
+  pub zov-write-row : (gear lamp : ℕ) (word : List ℕ) → ToldApart outcomeCode (writeAnswer c h wholeCode gear lamp word) Refused Done
+  zov-write-row = write-row-told c h wholeCode
+
+  pub zov-read-row : (received repaired : List ℕ) → ReadToldApart c h wholeCode received repaired
+  zov-read-row = read-row-told c h wholeCode
+
+  module _ (blocks shifts : List ℕ) where
+    abbrev chosen : Setting
+    chosen = selection blocks shifts
+
+    pub zov-selection-roles : (out : List ℕ)
+        → ToldApart countedCode (rolesAnswer c h chosen out) NotCounted (Count (dimension c h (columnsOf c chosen)))
+    zov-selection-roles = roles-told c h chosen
+
+    pub zov-selection-syndrome : (word out : List ℕ) → ToldApart outcomeCode (syndromeAnswer c h chosen word out) Refused Done
+    zov-selection-syndrome = syndrome-told c h chosen
+
+    pub zov-selection-encode : (message word : List ℕ) → ToldApart outcomeCode (encodeAnswer c h chosen message word) Refused Done
+    zov-selection-encode = encode-told c h chosen
+
+    pub zov-selection-message : (word message : List ℕ) → ToldApart outcomeCode (messageAnswer c h chosen word message) Refused Done
+    zov-selection-message = message-told c h chosen
+
+    pub zov-selection-repair : (received repaired : List ℕ)
+        → ToldApart recoveryCode (repairAnswer c h chosen received repaired) NotRepaired (Repaired (turnedCount c h (columnsOf c chosen) received))
+    zov-selection-repair = repair-told c h chosen
+
+    pub zov-selection-write-row : (gear lamp : ℕ) (word : List ℕ) → ToldApart outcomeCode (writeAnswer c h chosen gear lamp word) Refused Done
+    zov-selection-write-row = write-row-told c h chosen
+
+    pub zov-selection-read-row : (received repaired : List ℕ) → ReadToldApart c h chosen received repaired
+    zov-selection-read-row = read-row-told c h chosen
 
 -- ---- elements
 
@@ -180,52 +299,7 @@ module _ (m : ℕ) where
       let held = hold rules tt none in
       element-value (held .0) (inverse m (word m) a) (gf-laws m (width-is m (held .0)) .in-inv a))
 
--- ---- counts
-
-module _ (c : Parameters) (h : List ℕ) where
-  -- what is no more than n, of a code that is not refused
-  count-value : (lent : Bool) (more : List Rule) → fault (codeRules lent c h ++ more) ≡ 0 → {x : ℕ} → x ≤ c .n → IsValue x
-  count-value lent more none l =
-      let short = n-short (accepted lent c h (first-holds (codeRules lent c h) more none) .1 .limits) in
-      omega arith
-
-  pub zov-repair : (received repaired : List ℕ)
-      → ToldApart recoveryCode (repairAnswer c h received repaired) NotRepaired (Repaired (turnedCount c h (whole (c .n)) received))
-  unfolding repairAnswer repairFault codeRules shapeRules signatureRules wordRules turnedCount distance
-  zov-repair received repaired =
-      let lent = (eqb (length received) (c .n) && eqb (length repaired) (c .n)) in
-      let rules = codeRules lent c h ++ wordRules c h (whole (c .n)) received in
-      told-apart recoveryCode NotRepaired (Repaired (turnedCount c h (whole (c .n)) received)) (repaired-apart _) same-recovery (λ k. refl)
-      (fault rules)
-      (fault-up-to greatestNumber rules refl)
-      (λ none.
-      count-value lent (wordRules c h (whole (c .n)) received) none
-      (subst (λ (k : ℕ). turnedCount c h (whole (c .n)) received ≤ k) (length-whole (c .n))
-      (count-le (length (whole (c .n))) (differs received (repairedOf c h (whole (c .n)) received)))))
-
-  pub zov-roles : (out : List ℕ) → ToldApart countedCode (rolesAnswer c h out) NotCounted (Count (messageLength c h))
-  unfolding rolesAnswer rolesFault codeRules shapeRules signatureRules
-  zov-roles out =
-      let lent = eqb (length out) (c .n) in
-      told-apart countedCode NotCounted (Count (messageLength c h)) (counted-apart _) same-counted (λ k. refl) (fault (codeRules lent c h))
-      (fault-up-to greatestNumber (codeRules lent c h) refl)
-      (λ none.
-      let short = n-short (accepted lent c h none .1 .limits) in
-      omega (arith, messageLength-le c h))
-
-  pub zov-read-row : (received repaired : List ℕ)
-      → ((row : Row) (count : ℕ) → readAnswer c h received repaired ≡ Read row count → IsValue (readingCode (readAnswer c h received repaired)))
-      × ((k : ℕ) → readAnswer c h received repaired ≡ NotRead k → IsRefusal (readingCode (readAnswer c h received repaired)))
-  unfolding readAnswer readFault rowRead codeRules shapeRules signatureRules readRules wordRules
-  zov-read-row received repaired = (
-    λ row count e. subst IsValue (ap readingCode (sym e)) (reading-whole c h received repaired row count e .1),
-    λ k e.
-        let rules =
-        codeRules (eqb (length received) (c .n) && eqb (length repaired) (c .n)) c h ++ readRules c h (whole (c .n)) received in
-        let (ne, is) = refused-due NotRead _ (read-apart _ _) same-reading (fault rules) e in
-        subst IsRefusal (ap readingCode (sym e))
-        (minus-refuses k (λ z. ne (is ∙ z)) (subst (λ (i : ℕ). i ≤ greatestNumber) is (fault-up-to greatestNumber rules refl))),
-  )
+-- ---- sheets
 
 pub zov-sheet : (text out : List ℕ) → ToldApart countedCode (listingAnswer text out) NotCounted (Count (length (sheetListing text)))
 unfolding listingAnswer listingFault sheetListing sheetFault sheetRules codeRules shapeRules signatureRules roomRules

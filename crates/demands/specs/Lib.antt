@@ -7,5 +7,7 @@ pub mod Demand3
 pub mod Rows
 pub mod Field
 pub mod Columns
+pub mod AllBlocks
+pub mod Selections
 pub mod Interface
 pub mod Sheet

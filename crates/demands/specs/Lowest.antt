@@ -11,7 +11,7 @@ use lib.Dec.{T, leb}
 use borrow.Author.Tests.{leb-true}
 use Rattle.algebra.specs.Flags.{both-true}
 use Rattle.refusals.specs.Rules.{Rule, _unless_, Hold, fault, numbered}
-use Rattle.refusals.specs.RuleLaws.{hold, fault-first, fault-rest}
+use Rattle.refusals.specs.RuleLaws.{hold, fault-first, fault-rest, numbered-both}
 
 -- the numbers rise from l on, or stay
 abbrev pub rising : ℕ → List Rule → Bool
@@ -106,11 +106,6 @@ risingParts (part ∷ parts) = rising 1 part && risingParts parts
 abbrev pub InOrder : ℕ → List (List Rule) → Type 0
 InOrder k [] = ⊥
 InOrder k (part ∷ parts) = Lowest k part ⊎ (Hold part × InOrder k parts)
-
-numbered-both : (rules more : List Rule) → T (numbered rules) → T (numbered more) → T (numbered (rules ++ more))
-numbered-both [] more s s′ = s′
-numbered-both ((zero unless t) ∷ rules) more s s′ = absurd s
-numbered-both ((suc n unless t) ∷ rules) more s s′ = numbered-both rules more s s′
 
 pub parts-numbered : (parts : List (List Rule)) → risingParts parts ≡ true → T (numbered (allRules parts))
 parts-numbered [] r = tt

@@ -18,11 +18,11 @@ use Rattle.refusals.specs.RuleLaws.{fault-here, fault-past, fault-empty, refuse
 use Rattle.slices.specs.Bits.{Bits, IsBits}
 use Rattle.slices.specs.BitLaws.{all-bits}
 use Rattle.params.specs.declared.Parameters.{Parameters}
-use Rattle.params.specs.Calls.{code-leaves}
 use Rattle.params.specs.Code.{Accepted}
-use Rattle.parity.specs.Columns.{isMessageColumn, dimension, messageOf, messageLength}
-use Rattle.parity.specs.Selected.{whole-selected}
-use Rattle.parity.specs.Word.{whole}
+use Rattle.parity.specs.Columns.{isMessageColumn, dimension, messageOf}
+use Rattle.columns.specs.Fits.{Fits}
+use Rattle.columns.specs.Setting.{Setting, places, columnsOf}
+use Rattle.columns.specs.SettingLaws.{setting-leaves, fits-selected}
 use Rattle.nearest.specs.Demand.{repaired-code-word}
 use Rattle.nearest.specs.Repair.{distance, isRepairable, repairedOf}
 use Rattle.repair.specs.declared.Recovery.the-variants.{Repaired}
@@ -40,137 +40,138 @@ use Rattle.demands.specs.Demand3.{repaired-ends, refused-ends}
 same-count : (a b : ℕ) → Repaired a ≡ Repaired b → a ≡ b
 same-count a b e = cc
 
--- an accepted code with room for a row
-module _ {c : Parameters} {h : List ℕ} (A : Accepted c h) (wide : rowBits ≤ messageLength c h) where
+-- an accepted code, or any selection of it, with room for a row
+module _ {c : Parameters} {h : List ℕ} (A : Accepted c h) (s : Setting) (F : Fits c s) (wide : rowBits ≤ dimension c h (columnsOf c s)) where
   -- A row that is allowed is written, and what is received with at most t bits turned is read as that row, with the number of turned bits; the buffer
   -- then holds what was written.
-  pub written-is-read : (gear lamp : ℕ) → isRow gear lamp ≡ true → (word : List ℕ) → length word ≡ c .n
-      → (writeAnswer c h gear lamp word ≡ Done)
-      × ((received repaired : List ℕ) → IsBits (c .n) received → length repaired ≡ c .n
-      → distance (c .n) received (writeAfter c h gear lamp word) ≤ c .t
-      → (readAnswer c h received repaired ≡ Read (rowOf gear lamp) (distance (c .n) received (writeAfter c h gear lamp word)))
-      × (readAfter c h received repaired ≡ writeAfter c h gear lamp word))
+  pub written-is-read : (gear lamp : ℕ) → isRow gear lamp ≡ true → (word : List ℕ) → length word ≡ places c s
+      → (writeAnswer c h s gear lamp word ≡ Done)
+      × ((received repaired : List ℕ) → IsBits (places c s) received → length repaired ≡ places c s
+      → distance (places c s) received (writeAfter c h s gear lamp word) ≤ c .t
+      → (readAnswer c h s received repaired ≡ Read (rowOf gear lamp) (distance (places c s) received (writeAfter c h s gear lamp word)))
+      × (readAfter c h s received repaired ≡ writeAfter c h s gear lamp word))
   written-is-read gear lamp allowed word lent = (
-    row-written A wide gear lamp allowed word lent,
+    row-written A s F wide gear lamp allowed word lent,
     λ received repaired bits lent′ near. (
-      turned-read A wide gear lamp allowed word lent bits repaired lent′ near,
-      turned-repaired A wide gear lamp allowed word lent bits repaired lent′ near,
+      turned-read A s F wide gear lamp allowed word lent bits repaired lent′ near,
+      turned-repaired A s F wide gear lamp allowed word lent bits repaired lent′ near,
     ),
   )
 
   -- "green is allowed with 0 and with 7. Dark and amber still go with all": these rows are written, and any other gear and lamp are 11.
-  pub written-exactly : (gear lamp : ℕ) (word : List ℕ) → length word ≡ c .n
-      → ((writeAnswer c h gear lamp word ≡ Done) ↔ Allowed gear lamp) × ((writeAnswer c h gear lamp word ≡ NotWritten 11) ↔ (Allowed gear lamp → ⊥))
+  pub written-exactly : (gear lamp : ℕ) (word : List ℕ) → length word ≡ places c s
+      → ((writeAnswer c h s gear lamp word ≡ Done) ↔ Allowed gear lamp)
+      × ((writeAnswer c h s gear lamp word ≡ NotWritten 11) ↔ (Allowed gear lamp → ⊥))
   unfolding writeAnswer writeFault writeRules
   written-exactly gear lamp word lent = decided (isRow gear lamp) refl
     where
-      past : writeFault c h gear lamp word ≡ fault ((11 unless isRow gear lamp) ∷ [])
+      past : writeFault c h s gear lamp word ≡ fault ((11 unless isRow gear lamp) ∷ [])
       past =
-          code-leaves A (eq-eqb (length word) (c .n) lent) (writeRules c h (whole (c .n)) gear lamp)
-          ∙ fault-past 12 _ (le-leb rowBits (messageLength c h) wide) refl
+          setting-leaves A s F refl (eq-eqb (length word) (places c s) lent) (writeRules c h (columnsOf c s) gear lamp)
+          ∙ fault-past 12 _ (le-leb rowBits (dimension c h (columnsOf c s)) wide) refl
 
       decided : (b : Bool) → isRow gear lamp ≡ b
-          → ((writeAnswer c h gear lamp word ≡ Done) ↔ Allowed gear lamp)
-          × ((writeAnswer c h gear lamp word ≡ NotWritten 11) ↔ (Allowed gear lamp → ⊥))
+          → ((writeAnswer c h s gear lamp word ≡ Done) ↔ Allowed gear lamp)
+          × ((writeAnswer c h s gear lamp word ≡ NotWritten 11) ↔ (Allowed gear lamp → ⊥))
       decided true e =
-          let done : writeAnswer c h gear lamp word ≡ Done = given NotWritten Done (past ∙ fault-past 11 [] e fault-empty) in
+          let done : writeAnswer c h s gear lamp word ≡ Done = given NotWritten Done (past ∙ fault-past 11 [] e fault-empty) in
           let allowed = row-exactly gear lamp .0 e in
           ((λ d. allowed, λ r. done), (λ refused. absurd (done-apart 11 (sym refused ∙ done)), λ none. absurd (none allowed)))
       decided false e =
-          let refused : writeAnswer c h gear lamp word ≡ NotWritten 11 =
+          let refused : writeAnswer c h s gear lamp word ≡ NotWritten 11 =
           sym (refuse {k = 11} NotWritten Done (sym (past ∙ fault-here 11 [] e)) (λ z. omega arith)) in
           let none : Allowed gear lamp → ⊥ = λ r. false≢true (sym e ∙ row-exactly gear lamp .1 r) in
           ((λ done. absurd (done-apart 11 (sym refused ∙ done)), λ r. absurd (none r)), (λ n. none, λ n. refused))
 
-  module _ {received : List ℕ} (bits : IsBits (c .n) received) (repaired : List ℕ) (lent : length repaired ≡ c .n) where
+  module _ {received : List ℕ} (bits : IsBits (places c s) received) (repaired : List ℕ) (lent : length repaired ≡ places c s) where
     -- past 12 and 8 there is 10, and then 11
-    fault-is : readFault c h received repaired
-        ≡ fault ((10 unless isRepairable c h (whole (c .n)) received) ∷ (11 unless isRowMessage (carried c h (whole (c .n)) received)) ∷ [])
+    fault-is : readFault c h s received repaired
+        ≡ fault ((10 unless isRepairable c h (columnsOf c s) received) ∷ (11 unless isRowMessage (carried c h (columnsOf c s) received)) ∷ [])
     unfolding readFault readRules wordRules
     fault-is =
-        code-leaves A (both-hold (eq-eqb (length received) (c .n) (bits .long)) (eq-eqb (length repaired) (c .n) lent))
-        (readRules c h (whole (c .n)) received)
-        ∙ fault-past 12 _ (le-leb rowBits (messageLength c h) wide) (fault-past 8 _ (all-bits bits) refl)
+        setting-leaves A s F refl (both-hold (eq-eqb (length received) (places c s) (bits .long)) (eq-eqb (length repaired) (places c s) lent))
+        (readRules c h (columnsOf c s) received)
+        ∙ fault-past 12 _ (le-leb rowBits (dimension c h (columnsOf c s)) wide) (fault-past 8 _ (all-bits bits) refl)
 
-    module _ (e : isRepairable c h (whole (c .n)) received ≡ true) where
-      message-is : messageOf c h (whole (c .n)) (repairAfter c h received repaired) ≡ carried c h (whole (c .n)) received
+    module _ (e : isRepairable c h (columnsOf c s) received ≡ true) where
+      message-is : messageOf c h (columnsOf c s) (repairAfter c h s received repaired) ≡ carried c h (columnsOf c s) received
       unfolding carried
-      message-is = ap (messageOf c h (whole (c .n))) (repaired-ends A bits repaired lent e .1)
+      message-is = ap (messageOf c h (columnsOf c s)) (repaired-ends A s F bits repaired lent e .1)
 
-      carried-long : length (carried c h (whole (c .n)) received) ≡ messageLength c h
+      carried-long : length (carried c h (columnsOf c s) received) ≡ dimension c h (columnsOf c s)
       unfolding carried messageOf dimension
       carried-long =
-          length-chosen (length (whole (c .n))) (isMessageColumn c h (whole (c .n))) (entryOf (repairedOf c h (whole (c .n)) received))
+          length-chosen (length (columnsOf c s)) (isMessageColumn c h (columnsOf c s)) (entryOf (repairedOf c h (columnsOf c s) received))
 
-      carried-bits : Bits (carried c h (whole (c .n)) received)
+      carried-bits : Bits (carried c h (columnsOf c s) received)
       unfolding carried messageOf
       carried-bits i l =
-          chosen-bits (length (whole (c .n))) (isMessageColumn c h (whole (c .n))) (entryOf (repairedOf c h (whole (c .n)) received))
-          (repaired-code-word A (whole-selected (c .n)) (bits-on bits) e .bits .bits) i
+          chosen-bits (length (columnsOf c s)) (isMessageColumn c h (columnsOf c s)) (entryOf (repairedOf c h (columnsOf c s) received))
+          (repaired-code-word A (fits-selected A s F) (bits-on c s bits) e .bits .bits) i
 
-      no-row : isRowMessage (carried c h (whole (c .n)) received) ≡ false → readAnswer c h received repaired ≡ Refused 11
+      no-row : isRowMessage (carried c h (columnsOf c s) received) ≡ false → readAnswer c h s received repaired ≡ Refused 11
       unfolding readAnswer
       no-row is = sym (refuse {k = 11} Refused _ (sym (fault-is ∙ fault-past 10 _ e (fault-here 11 [] is))) (λ z. omega arith))
 
-      a-row : isRowMessage (carried c h (whole (c .n)) received) ≡ true
-          → readAnswer c h received repaired
-          ≡ Read (rowOf (gearIn (carried c h (whole (c .n)) received)) (lampIn (carried c h (whole (c .n)) received)))
-          (turnedCount c h (whole (c .n)) received)
+      a-row : isRowMessage (carried c h (columnsOf c s) received) ≡ true
+          → readAnswer c h s received repaired
+          ≡ Read (rowOf (gearIn (carried c h (columnsOf c s) received)) (lampIn (carried c h (columnsOf c s) received)))
+          (turnedCount c h (columnsOf c s) received)
       unfolding readAnswer rowRead
       a-row is = given Refused _ (fault-is ∙ fault-past 10 _ e (fault-past 11 [] is fault-empty))
 
-      not-none : isRowMessage (carried c h (whole (c .n)) received) ≡ true → readAnswer c h received repaired ≢ Refused 11
+      not-none : isRowMessage (carried c h (columnsOf c s) received) ≡ true → readAnswer c h s received repaired ≢ Refused 11
       not-none is refused =
           let read = sym refused ∙ a-row is in
           let z : _≡_ {A = ℕ} 0 1 = cc in absurd (omega arith)
 
       -- the message of no allowed row
-      none-exactly : (isRowMessage (carried c h (whole (c .n)) received) ≡ false)
-          ↔ ((gear lamp : ℕ) → isRow gear lamp ≡ true → messageOf c h (whole (c .n)) (repairAfter c h received repaired)
-          ≢ rowMessage (messageLength c h) gear lamp)
+      none-exactly : (isRowMessage (carried c h (columnsOf c s) received) ≡ false)
+          ↔ ((gear lamp : ℕ) → isRow gear lamp ≡ true → messageOf c h (columnsOf c s) (repairAfter c h s received repaired)
+          ≢ rowMessage (dimension c h (columnsOf c s)) gear lamp)
       unfolding isRowMessage
       none-exactly = (
         λ is gear lamp allowed same.
-            false≢true (sym is ∙ ap isRowMessage (sym message-is ∙ same) ∙ message-is-row (messageLength c h) gear lamp wide allowed),
-        λ none. refuted (isRowMessage (carried c h (whole (c .n)) received))
+            false≢true (sym is ∙ ap isRowMessage (sym message-is ∙ same) ∙ message-is-row (dimension c h (columnsOf c s)) gear lamp wide allowed),
+        λ none. refuted (isRowMessage (carried c h (columnsOf c s) received))
             (λ is.
-            let said = carried c h (whole (c .n)) received in
+            let said = carried c h (columnsOf c s) received in
             none (gearIn said) (lampIn said) (both-true (isRow (gearIn said) (lampIn said)) (furtherZero said) is .0)
             (message-is ∙ message-only said carried-bits is ∙ ap (λ (k : ℕ). rowMessage k (gearIn said) (lampIn said)) carried-long)),
       )
 
-    far-by : isRepairable c h (whole (c .n)) received ≡ false → readAnswer c h received repaired ≢ Refused 11
+    far-by : isRepairable c h (columnsOf c s) received ≡ false → readAnswer c h s received repaired ≢ Refused 11
     unfolding readAnswer
     far-by e refused =
         let far = refuse {k = 10} Refused _ (sym (fault-is ∙ fault-here 10 _ e)) (λ z. omega arith) ∙ refused in
         let same : _≡_ {A = ℕ} 10 11 = cc in absurd (omega arith)
 
-    repairable-by : {count : ℕ} → repairAnswer c h received repaired ≡ Repaired count → isRepairable c h (whole (c .n)) received ≡ true
-    repairable-by done = decided (isRepairable c h (whole (c .n)) received) refl
+    repairable-by : {count : ℕ} → repairAnswer c h s received repaired ≡ Repaired count → isRepairable c h (columnsOf c s) received ≡ true
+    repairable-by done = decided (isRepairable c h (columnsOf c s) received) refl
       where
-        decided : (b : Bool) → isRepairable c h (whole (c .n)) received ≡ b → isRepairable c h (whole (c .n)) received ≡ true
+        decided : (b : Bool) → isRepairable c h (columnsOf c s) received ≡ b → isRepairable c h (columnsOf c s) received ≡ true
         decided true e = e
         decided false e =
-            let both = sym done ∙ refused-ends A bits repaired lent e .0 in
+            let both = sym done ∙ refused-ends A s F bits repaired lent e .0 in
             let z : _≡_ {A = ℕ} 0 1 = cc in absurd (omega arith)
 
     -- 11 is given exactly if the word is repaired and its message is that of no allowed row
-    pub no-row-exactly : (readAnswer c h received repaired ≡ Refused 11)
-        ↔ ((count : ℕ) × (repairAnswer c h received repaired ≡ Repaired count)
-        × ((gear lamp : ℕ) → isRow gear lamp ≡ true → messageOf c h (whole (c .n)) (repairAfter c h received repaired)
-        ≢ rowMessage (messageLength c h) gear lamp))
-    no-row-exactly = decided (isRepairable c h (whole (c .n)) received) refl
+    pub no-row-exactly : (readAnswer c h s received repaired ≡ Refused 11)
+        ↔ ((count : ℕ) × (repairAnswer c h s received repaired ≡ Repaired count)
+        × ((gear lamp : ℕ) → isRow gear lamp ≡ true → messageOf c h (columnsOf c s) (repairAfter c h s received repaired)
+        ≢ rowMessage (dimension c h (columnsOf c s)) gear lamp))
+    no-row-exactly = decided (isRepairable c h (columnsOf c s) received) refl
       where
-        decided : (b : Bool) → isRepairable c h (whole (c .n)) received ≡ b
-            → (readAnswer c h received repaired ≡ Refused 11)
-            ↔ ((count : ℕ) × (repairAnswer c h received repaired ≡ Repaired count)
-            × ((gear lamp : ℕ) → isRow gear lamp ≡ true → messageOf c h (whole (c .n)) (repairAfter c h received repaired)
-            ≢ rowMessage (messageLength c h) gear lamp))
+        decided : (b : Bool) → isRepairable c h (columnsOf c s) received ≡ b
+            → (readAnswer c h s received repaired ≡ Refused 11)
+            ↔ ((count : ℕ) × (repairAnswer c h s received repaired ≡ Repaired count)
+            × ((gear lamp : ℕ) → isRow gear lamp ≡ true → messageOf c h (columnsOf c s) (repairAfter c h s received repaired)
+            ≢ rowMessage (dimension c h (columnsOf c s)) gear lamp))
         decided true e = (
           λ refused. (
-            turnedCount c h (whole (c .n)) received,
-            repaired-ends A bits repaired lent e .0,
-            none-exactly e .0 (refuted (isRowMessage (carried c h (whole (c .n)) received)) (λ is. not-none e is refused)),
+            turnedCount c h (columnsOf c s) received,
+            repaired-ends A s F bits repaired lent e .0,
+            none-exactly e .0 (refuted (isRowMessage (carried c h (columnsOf c s) received)) (λ is. not-none e is refused)),
           ),
           λ none. no-row e (none-exactly e .1 (none .2)),
         )
@@ -181,19 +182,19 @@ module _ {c : Parameters} {h : List ℕ} (A : Accepted c h) (wide : rowBits ≤ 
 
     -- the message of what repair leaves in the buffer
     abbrev pub repairedMessage : List ℕ
-    repairedMessage = messageOf c h (whole (c .n)) (repairAfter c h received repaired)
+    repairedMessage = messageOf c h (columnsOf c s) (repairAfter c h s received repaired)
 
     -- "A message with gear 7, a lamp of 0 to 2 and further bits 0 … is now read; any other with 7 still brings 11."
-    pub high-neutral : {count : ℕ} → repairAnswer c h received repaired ≡ Repaired count → gearIn repairedMessage ≡ highNeutral
+    pub high-neutral : {count : ℕ} → repairAnswer c h s received repaired ≡ Repaired count → gearIn repairedMessage ≡ highNeutral
         → ((lampIn repairedMessage ≤ 2) × (furtherZero repairedMessage ≡ true)
-        → readAnswer c h received repaired ≡ Read (rowOf highNeutral (lampIn repairedMessage)) count)
-        × (((lampIn repairedMessage ≤ 2) × (furtherZero repairedMessage ≡ true) → ⊥) → readAnswer c h received repaired ≡ Refused 11)
+        → readAnswer c h s received repaired ≡ Read (rowOf highNeutral (lampIn repairedMessage)) count)
+        × (((lampIn repairedMessage ≤ 2) × (furtherZero repairedMessage ≡ true) → ⊥) → readAnswer c h s received repaired ≡ Refused 11)
     high-neutral done high =
         let e = repairable-by done in
-        let same : repairedMessage ≡ carried c h (whole (c .n)) received = message-is e in (
+        let same : repairedMessage ≡ carried c h (columnsOf c s) received = message-is e in (
           λ row.
               a-row e (ap isRowMessage (sym same) ∙ high-message repairedMessage high .1 row)
               ∙ ap₂ Read (ap₂ rowOf (ap gearIn (sym same) ∙ high) (ap lampIn (sym same)))
-              (same-count _ _ (sym (repaired-ends A bits repaired lent e .0) ∙ done)),
+              (same-count _ _ (sym (repaired-ends A s F bits repaired lent e .0) ∙ done)),
           λ none. no-row e (ap isRowMessage (sym same) ∙ refuted (isRowMessage repairedMessage) (λ t. none (high-message repairedMessage high .0 t))),
         )

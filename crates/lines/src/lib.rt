@@ -1,9 +1,9 @@
 // The lines of the listing of an accepted code.
 use basis::Column;
+use columns::number_columns;
 use field::Elem;
 use fields::FIELD;
 use params::Parameters;
-use parity::number_columns;
 use slices::LONGEST;
 ghost use mathlib.Core.Path.{_≡_};
 ghost use Prim.Native.Nat.{_+_, _*_, _^_, _≤_, _<_};

@@ -1,4 +1,4 @@
-// The message columns of an accepted code, for any selection of its columns, where place j of a word is column cols_j: a basis that says which they are
+// The message columns of an accepted code, for any list of its columns, where place j of a word is column cols_j: a basis that says which they are
 // and what a word that carries a message holds elsewhere, and the number that refuses a message.
 use basis::Column;
 use basis::elimination::parity_basis;

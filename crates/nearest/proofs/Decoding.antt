@@ -65,7 +65,7 @@ turning-turn {n} {p} {received} {old} {now} {number} {j} T l b e v-is number-is 
     one-more true l = omega arith
     one-more false l = omega arith
 
--- ---- an accepted code and a selection of its columns
+-- ---- an accepted code and a list of its columns
 
 module _ {c : Parameters} {h cols : List ℕ} (O : OnColumns c h cols) where
   pub roots-short : c .t ≤ longest

@@ -1,4 +1,4 @@
--- Code words over any selection of columns.
+-- Code words over any list of columns.
 use mathlib.Core.Path.{_≡_}
 use mathlib.Core.Bool.{true}
 use mathlib.Core.List.{List}

@@ -1,4 +1,4 @@
--- What the parts that find the candidate are handed and what they leave, for an accepted code and a selection of its columns.
+-- What the parts that find the candidate are handed and what they leave, for an accepted code and a list of its columns.
 use mathlib.Core.Path.{_≡_}
 use mathlib.Core.Bool.{Bool}
 use mathlib.Core.List.{List}

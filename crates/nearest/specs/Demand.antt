@@ -4,7 +4,7 @@
 -- buffer is unchanged and the number is 10. It is 10 exactly when every code word differs from the word received in more than t places."
 --
 -- The number is 10 where `isRepairable` is false; else `repairedOf` is what the buffer holds, and `distance` from the word received is the count. The
--- laws are stated for every selection of columns of the code; the whole code is one of them (`whole-selected`).
+-- laws are stated for every list of columns of the code; the whole code is one of them (`whole-selected`).
 use mathlib.Core.Path.{_≡_, sym, _∙_}
 use mathlib.Core.Logic.{_≢_, _↔_}
 use mathlib.Core.Bool.{true, false, false≢true}

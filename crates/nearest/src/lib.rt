@@ -1,7 +1,7 @@
 // The nearest code word. In specs/ stands repair as it is defined, by a search (`Repair`), with the laws of demand 3 about it (`Demand`); here is the
 // one word that can be the repair of a word received, and the test whether a word is a code word.
 //
-// All of it is for an accepted code, whose inverses 1/h are known, and for any selection of its columns: place j of a word is column cols_j.
+// All of it is for an accepted code, whose inverses 1/h are known, and for any list of its columns: place j of a word is column cols_j.
 use basis::Column;
 use field::Elem;
 use locator::HALF;

@@ -10,6 +10,8 @@ use lib.Dec.{T, leb}
 use lib.ListN.{length}
 use lib.Pow.{pow-pos, pow-mono}
 use borrow.Author.Tests.{leb-true, le-leb, eqb-true, eq-eqb}
+use Rattle.algebra.specs.Distinct.{distinct}
+use Rattle.algebra.specs.DistinctLaws.{distinct-is}
 use Rattle.algebra.specs.Flags.{both-true, both-hold}
 use Rattle.algebra.specs.Lists.{entryOf}
 use Rattle.algebra.specs.Xor.{_⊕_}
@@ -24,8 +26,8 @@ use Rattle.slices.specs.Lengths.{longestLog, longest, isPower}
 use Rattle.slices.specs.LengthLaws.{power-is, power}
 use Rattle.signature.specs.Signature.{rootAt, supportAt, Conditions, Cauchy}
 use Rattle.signature.specs.Existence.{offset-pair}
-use Rattle.signature.specs.Tests.{signatureRules, noZero, linear, distinct}
-use Rattle.signature.specs.TestLaws.{noZero-is, linear-is, distinct-is}
+use Rattle.signature.specs.Tests.{signatureRules, noZero, linear}
+use Rattle.signature.specs.TestLaws.{noZero-is, linear-is}
 use Rattle.params.specs.declared.Parameters.{Parameters}
 use Rattle.params.specs.Code.{isLength, isRootCount, shapeRules, codeRules, Limits, Accepted, withOffset}
 

@@ -2,7 +2,6 @@ pub mod Word
 pub mod Columns
 pub mod Selected
 pub mod ColumnLaws
-pub mod Whole
 pub mod Parity
 pub mod Systematic
 pub mod Encoding

@@ -1,5 +1,5 @@
--- A selection: the columns of a code that the places of a word stand for, each one once. The whole code is one.
-use mathlib.Core.Path.{_≡_, sym, _∙_, subst}
+-- Columns of a code, each at most once, that the places of a word stand for. Those of the whole code are such a list.
+use mathlib.Core.Path.{_≡_, sym, ap, _∙_, subst}
 use mathlib.Core.List.{List}
 use Prim.Native.Nat.{ℕ, _≤_, _<_}
 use native.Mathlib.Omega.{arith}
@@ -7,6 +7,7 @@ use lib.ListN.{length}
 use Rattle.algebra.specs.Lists.{entryOf}
 use Rattle.algebra.specs.Pigeonhole.{pigeonhole}
 use Rattle.algebra.specs.Distinct.{Distinct}
+use Rattle.algebra.specs.Tabulate.{tabulate}
 use Rattle.algebra.specs.TabulateLaws.{length-tabulate, getD-tabulate}
 use Rattle.params.specs.declared.Parameters.{Parameters}
 use Rattle.slices.specs.Lengths.{longest}
@@ -32,28 +33,40 @@ columns-short {c} {h} {cols} O =
     let short : c .n ≤ longest = n-short (O .accepted .limits) in
     omega arith
 
+-- columns given by a function
+pub tabulated-selected : (n k : ℕ) (f : ℕ → ℕ) → ((j : ℕ) → j < k → f j < n) → Distinct k f → Selected n (tabulate k f)
+tabulated-selected n k f inside distinct =
+    record {
+      inside = λ j l. subst (λ (x : ℕ). x < n) (sym (at j (below j l))) (inside j (below j l));
+      distinct = λ i j l lj e. distinct i j l (below j lj) (sym (at i (earlier i j l (below j lj))) ∙ e ∙ at j (below j lj));
+    }
+  where
+    below : (j : ℕ) → j < length (tabulate k f) → j < k
+    below j l = subst (λ (i : ℕ). j < i) (length-tabulate k f) l
+
+    at : (j : ℕ) → j < k → entryOf (tabulate k f) j ≡ f j
+    at j l = getD-tabulate k f j 0 l
+
+    earlier : (i j : ℕ) → i < j → j < k → i < k
+    earlier i j l lj = omega arith
+
 -- ---- the whole code
 
 pub length-whole : (n : ℕ) → length (whole n) ≡ n
 unfolding whole
 length-whole n = length-tabulate n (λ j. j)
 
-whole-at : (n j : ℕ) → j < n → entryOf (whole n) j ≡ j
-unfolding whole
-whole-at n j l = getD-tabulate n (λ j. j) j 0 l
-
 pub whole-selected : (n : ℕ) → Selected n (whole n)
-whole-selected n =
-    record {
-      inside = λ j l. subst (λ (x : ℕ). x < n) (sym (whole-at n j (below j l))) (below j l);
-      distinct = λ i j l lj e. different i j l (sym (whole-at n i (earlier i j l (below j lj))) ∙ e ∙ whole-at n j (below j lj));
-    }
+unfolding whole
+whole-selected n = tabulated-selected n n (λ j. j) (λ j l. l) different
   where
-    below : (j : ℕ) → j < length (whole n) → j < n
-    below j l = subst (λ (k : ℕ). j < k) (length-whole n) l
+    different : (i j : ℕ) → i < j → j < n → i ≡ j → ⊥
+    different i j l lj e = omega arith
 
-    earlier : (i j : ℕ) → i < j → j < n → i < n
-    earlier i j l lj = omega arith
+module _ (c : Parameters) {cols : List ℕ} (numbered : cols ≡ whole (c .n)) where
+  pub on-whole : {h : List ℕ} → Accepted c h → OnColumns c h cols
+  on-whole {h} A = subst (OnColumns c h) (sym numbered) (record { accepted = A; selected = whole-selected (c .n) })
 
-    different : (i j : ℕ) → i < j → i ≡ j → ⊥
-    different i j l e = omega arith
+  -- a buffer of n entries has one for each column
+  pub as-long : {k : ℕ} → k ≡ c .n → k ≡ length cols
+  as-long e = e ∙ sym (ap length numbered ∙ length-whole (c .n))

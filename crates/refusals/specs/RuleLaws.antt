@@ -59,6 +59,20 @@ fault-rest ((zero unless t) ∷ rules) more s e = absurd s
 fault-rest ((suc n unless true) ∷ rules) more s e = fault-rest rules more s e
 fault-rest ((suc n unless false) ∷ rules) more s e = absurd (suc-ne-zero n e)
 
+-- rules after two lists that give one number give one number
+pub fault-alike : (rules rules′ more : List Rule) → T (numbered rules) → T (numbered rules′) → fault rules ≡ fault rules′
+    → fault (rules ++ more) ≡ fault (rules′ ++ more)
+fault-alike rules rules′ more s s′ e = decided (ℕ-discrete (fault rules) 0)
+  where
+    decided : Dec (fault rules ≡ 0) → fault (rules ++ more) ≡ fault (rules′ ++ more)
+    decided (yes z) = fault-rest rules more s z ∙ sym (fault-rest rules′ more s′ (sym e ∙ z))
+    decided (no ne) = fault-first rules more ne ∙ e ∙ sym (fault-first rules′ more (λ z. ne (e ∙ z)))
+
+pub numbered-both : (rules more : List Rule) → T (numbered rules) → T (numbered more) → T (numbered (rules ++ more))
+numbered-both [] more s s′ = s′
+numbered-both ((zero unless t) ∷ rules) more s s′ = absurd s
+numbered-both ((suc n unless t) ∷ rules) more s s′ = numbered-both rules more s s′
+
 -- a call that found the number k and goes by it answers as it should
 pub refuse : {A : Type 0} {k n : ℕ} (refused : ℕ → A) (value : A) → k ≡ n → k ≢ 0 → refused k ≡ unless-refused n refused value
 unfolding unless-refused

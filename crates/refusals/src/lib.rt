@@ -42,6 +42,12 @@ pub const TOO_FEW_BITS: u32 = 12;
 // A text that is no sheet.
 pub const NO_SHEET: u32 = 13;
 
+// A block of a selection that the code does not have, or that is named twice.
+pub const NO_SUCH_BLOCK: u32 = 14;
+
+// A shift of a selection that is t or more.
+pub const SHIFT: u32 = 15;
+
 // The end of a call whose result stands in lent buffers: they are written only where it is Done.
 pub enum Outcome {
     Done,

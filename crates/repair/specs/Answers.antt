@@ -1,7 +1,7 @@
 -- What repair answers, and what it leaves in the lent buffer, for every input.
 --
 -- The definition of repair, and the laws of demand 3 about it, stand in `Repair` and `Demand` of the crate `nearest`.
-use mathlib.Core.Bool.{_&&_}
+use mathlib.Core.Bool.{true, _&&_}
 use mathlib.Core.List.{List, [], _∷_, _++_}
 use Prim.Native.Nat.{ℕ}
 use lib.Dec.{eqb}
@@ -9,13 +9,12 @@ use lib.ListN.{length}
 use Rattle.refusals.specs.Rules.{Rule, _unless_, fault, unless-refused}
 use Rattle.slices.specs.Bits.{allBits}
 use Rattle.params.specs.declared.Parameters.{Parameters}
-use Rattle.params.specs.Code.{codeRules}
-use Rattle.parity.specs.Word.{whole}
+use Rattle.columns.specs.Setting.{Setting, places, columnsOf, settingRules}
 use Rattle.nearest.specs.Repair.{distance, isRepairable, repairedOf}
 use Rattle.repair.specs.declared.Recovery.{Recovery}
 use Rattle.repair.specs.declared.Recovery.the-variants.{Repaired, Refused}
 
--- ---- for an accepted code and any selection of its columns
+-- ---- for an accepted code and any list of its columns
 
 module _ (c : Parameters) (h cols received : List ℕ) where
   -- 8 and 10
@@ -26,15 +25,16 @@ module _ (c : Parameters) (h cols received : List ℕ) where
   unfoldable pub turnedCount : ℕ
   turnedCount = distance (length cols) received (repairedOf c h cols received)
 
--- ---- the call: the places of a word are the columns of the whole code
+-- ---- the call, for the whole code or for a selection of its blocks
 
-module _ (c : Parameters) (h received repaired : List ℕ) where
+module _ (c : Parameters) (h : List ℕ) (s : Setting) (received repaired : List ℕ) where
   unfoldable pub repairFault : ℕ
   repairFault =
-      fault (codeRules (eqb (length received) (c .n) && eqb (length repaired) (c .n)) c h ++ wordRules c h (whole (c .n)) received)
+      fault (settingRules c h s true (eqb (length received) (places c s) && eqb (length repaired) (places c s))
+      ++ wordRules c h (columnsOf c s) received)
 
   unfoldable pub repairAnswer : Recovery
-  repairAnswer = unless-refused repairFault Refused (Repaired (turnedCount c h (whole (c .n)) received))
+  repairAnswer = unless-refused repairFault Refused (Repaired (turnedCount c h (columnsOf c s) received))
 
   unfoldable pub repairAfter : List ℕ
-  repairAfter = unless-refused repairFault (λ k. repaired) (repairedOf c h (whole (c .n)) received)
+  repairAfter = unless-refused repairFault (λ k. repaired) (repairedOf c h (columnsOf c s) received)

@@ -1,4 +1,4 @@
--- What repair answers and leaves for an accepted code and a selection of its columns, and what the decoder does.
+-- What repair answers and leaves for an accepted code and a list of its columns, and what the decoder does.
 use mathlib.Core.Path.{_≡_}
 use mathlib.Core.List.{List}
 use Prim.Native.Nat.{ℕ}

@@ -1,4 +1,4 @@
-// Repair for an accepted code, whose inverses 1/h are known, and for any selection of its columns: place j of a word is column cols_j.
+// Repair for an accepted code, whose inverses 1/h are known, and for any list of its columns: place j of a word is column cols_j.
 use crate::Recovery;
 use basis::Column;
 use field::Elem;

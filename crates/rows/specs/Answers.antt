@@ -1,5 +1,5 @@
 -- What writing and reading a row answer, and what they leave in the lent buffer, for every input.
-use mathlib.Core.Bool.{_&&_}
+use mathlib.Core.Bool.{true, _&&_}
 use mathlib.Core.List.{List, [], _∷_, _++_}
 use Prim.Native.Nat.{ℕ}
 use lib.Dec.{eqb, leb}
@@ -8,16 +8,15 @@ use Rattle.refusals.specs.Rules.{Rule, _unless_, fault, unless-refused}
 use Rattle.refusals.specs.declared.Outcome.{Outcome}
 use Rattle.refusals.specs.declared.Outcome.the-variants.{Done, Refused}
 use Rattle.params.specs.declared.Parameters.{Parameters}
-use Rattle.params.specs.Code.{codeRules}
 use Rattle.parity.specs.Columns.{dimension, messageOf, encodingOf}
-use Rattle.parity.specs.Word.{whole}
+use Rattle.columns.specs.Setting.{Setting, places, columnsOf, settingRules}
 use Rattle.nearest.specs.Repair.{repairedOf}
 use Rattle.repair.specs.Answers.{wordRules, turnedCount}
 use Rattle.gears.specs.Rows.{isRow, rowBits, rowMessage, gearIn, lampIn, isRowMessage, rowOf}
 use Rattle.rows.specs.declared.Reading.{Reading}
 use Rattle.rows.specs.declared.Reading.the-variants.{Read, Refused as NotRead}
 
--- ---- for an accepted code and any selection of its columns
+-- ---- for an accepted code and any list of its columns
 
 module _ (c : Parameters) (h cols : List ℕ) where
   -- 12 and 11
@@ -40,26 +39,27 @@ module _ (c : Parameters) (h cols : List ℕ) where
     unfoldable pub rowRead : Reading
     rowRead = Read (rowOf (gearIn carried) (lampIn carried)) (turnedCount c h cols received)
 
--- ---- the calls: the places of a word are the columns of the whole code
+-- ---- the calls, for the whole code or for a selection of its blocks
 
-module _ (c : Parameters) (h : List ℕ) where
+module _ (c : Parameters) (h : List ℕ) (s : Setting) where
   module _ (gear lamp : ℕ) (word : List ℕ) where
     unfoldable pub writeFault : ℕ
-    writeFault = fault (codeRules (eqb (length word) (c .n)) c h ++ writeRules c h (whole (c .n)) gear lamp)
+    writeFault = fault (settingRules c h s true (eqb (length word) (places c s)) ++ writeRules c h (columnsOf c s) gear lamp)
 
     unfoldable pub writeAnswer : Outcome
     writeAnswer = unless-refused writeFault Refused Done
 
     unfoldable pub writeAfter : List ℕ
-    writeAfter = unless-refused writeFault (λ k. word) (rowWord c h (whole (c .n)) gear lamp)
+    writeAfter = unless-refused writeFault (λ k. word) (rowWord c h (columnsOf c s) gear lamp)
 
   module _ (received repaired : List ℕ) where
     unfoldable pub readFault : ℕ
     readFault =
-        fault (codeRules (eqb (length received) (c .n) && eqb (length repaired) (c .n)) c h ++ readRules c h (whole (c .n)) received)
+        fault (settingRules c h s true (eqb (length received) (places c s) && eqb (length repaired) (places c s))
+        ++ readRules c h (columnsOf c s) received)
 
     unfoldable pub readAnswer : Reading
-    readAnswer = unless-refused readFault NotRead (rowRead c h (whole (c .n)) received)
+    readAnswer = unless-refused readFault NotRead (rowRead c h (columnsOf c s) received)
 
     unfoldable pub readAfter : List ℕ
-    readAfter = unless-refused readFault (λ k. repaired) (repairedOf c h (whole (c .n)) received)
+    readAfter = unless-refused readFault (λ k. repaired) (repairedOf c h (columnsOf c s) received)

@@ -1,6 +1,6 @@
 -- What is written is read again, also with up to t bits turned; and what is read is an allowed row, the one that the repaired word carries.
 --
--- Each law is shown for an accepted code and any selection of its columns first, and the calls' from it: the whole code is a selection.
+-- Each law is shown for an accepted code and any list of its columns first, and the calls' from it, at any setting.
 use mathlib.Core.Path.{_≡_, refl, sym, ap, ap₂, _∙_, subst, subst₂}
 use mathlib.Core.Bool.{Bool, true, false, cond, _&&_}
 use mathlib.Core.List.{List, [], _∷_, _++_}
@@ -19,13 +19,13 @@ use Rattle.refusals.specs.declared.Outcome.the-variants.{Done, Refused}
 use Rattle.slices.specs.Bits.{Bits, allBits, IsBits}
 use Rattle.slices.specs.BitLaws.{received-bits, all-bits}
 use Rattle.params.specs.declared.Parameters.{Parameters}
-use Rattle.params.specs.Calls.{code-leaves}
-use Rattle.params.specs.Accepted.{accepted}
-use Rattle.params.specs.Code.{Accepted, codeRules}
-use Rattle.parity.specs.Columns.{isMessageColumn, dimension, messageOf, encodingOf, messageLength}
+use Rattle.params.specs.Code.{Accepted}
+use Rattle.parity.specs.Columns.{isMessageColumn, dimension, messageOf, encodingOf}
 use Rattle.parity.specs.Encoding.{encoding-carries, encoding-only}
-use Rattle.parity.specs.Selected.{Selected, length-whole, whole-selected}
-use Rattle.parity.specs.Word.{whole}
+use Rattle.parity.specs.Selected.{Selected}
+use Rattle.columns.specs.Fits.{Fits}
+use Rattle.columns.specs.Setting.{Setting, places, columnsOf, settingRules}
+use Rattle.columns.specs.SettingLaws.{setting-accepted, setting-leaves, fits-selected, length-columns}
 use Rattle.nearest.specs.CodeWord.{CodeWord}
 use Rattle.nearest.specs.Demand.{near-unique, repaired-code-word, repaired-within}
 use Rattle.nearest.specs.Repair.{distance, isRepairable, repairedOf}
@@ -67,7 +67,7 @@ chosen-bits (suc n) p w b =
     last true l (suc i) = lit< tt
     last false l i = lit< tt
 
--- ---- an allowed row, for an accepted code and a selection that is wide enough
+-- ---- an allowed row, for an accepted code and columns that are wide enough
 
 module _ {c : Parameters} {h cols : List ℕ} (A : Accepted c h) (S : Selected (c .n) cols) (wide : rowBits ≤ dimension c h cols) (gear lamp : ℕ)
     (allowed : isRow gear lamp ≡ true) where
@@ -123,7 +123,7 @@ module _ {c : Parameters} {h cols : List ℕ} (A : Accepted c h) (S : Selected (
     unfolding readingAfter
     near-after repaired = given (λ i. repaired) (repairedOf c h cols r) read-passes ∙ repaired-is
 
--- ---- what is read, of a selection
+-- ---- what is read, over any columns
 
 module _ (c : Parameters) (h cols received : List ℕ) {row : Row} {turned : ℕ} (e : readingAnswer c h cols received ≡ Read row turned) where
   abbrev said : List ℕ
@@ -181,110 +181,119 @@ module _ (c : Parameters) (h cols received : List ℕ) {row : Row} {turned : ℕ
         (message-only said s-bits (passed .3) ∙ ap (λ (i : ℕ). rowMessage i (gearIn said) (lampIn said)) s-long
         ∙ ap₂ (rowMessage (dimension c h cols)) (sym gear-is) (sym lamp-is))
 
--- ---- reading by the call, for an accepted code: it ends as for the selection of all columns
+-- ---- reading by the call, for an accepted code: it ends as for the columns of its setting
 
-module _ {c : Parameters} {h : List ℕ} (A : Accepted c h) (received repaired : List ℕ) (long : length received ≡ c .n)
-    (lent : length repaired ≡ c .n) where
-  read-rules : readFault c h received repaired ≡ fault (readRules c h (whole (c .n)) received)
+module _ {c : Parameters} {h : List ℕ} (A : Accepted c h) (s : Setting) (F : Fits c s) (received repaired : List ℕ)
+    (long : length received ≡ places c s) (lent : length repaired ≡ places c s) where
+  read-rules : readFault c h s received repaired ≡ fault (readRules c h (columnsOf c s) received)
   unfolding readFault
   read-rules =
-      code-leaves A (both-hold (eq-eqb (length received) (c .n) long) (eq-eqb (length repaired) (c .n) lent)) (readRules c h (whole (c .n)) received)
+      setting-leaves A s F refl (both-hold (eq-eqb (length received) (places c s) long) (eq-eqb (length repaired) (places c s) lent))
+      (readRules c h (columnsOf c s) received)
 
-  answer-is : readAnswer c h received repaired ≡ readingAnswer c h (whole (c .n)) received
+  answer-is : readAnswer c h s received repaired ≡ readingAnswer c h (columnsOf c s) received
   unfolding readAnswer readingAnswer
-  answer-is = ap (λ (i : ℕ). unless-refused i NotRead (rowRead c h (whole (c .n)) received)) read-rules
+  answer-is = ap (λ (i : ℕ). unless-refused i NotRead (rowRead c h (columnsOf c s) received)) read-rules
 
-  after-is : readAfter c h received repaired ≡ readingAfter c h (whole (c .n)) received repaired
+  after-is : readAfter c h s received repaired ≡ readingAfter c h (columnsOf c s) received repaired
   unfolding readAfter readingAfter
-  after-is = ap (λ (i : ℕ). unless-refused i (λ j. repaired) (repairedOf c h (whole (c .n)) received)) read-rules
+  after-is = ap (λ (i : ℕ). unless-refused i (λ j. repaired) (repairedOf c h (columnsOf c s) received)) read-rules
 
 -- ---- what is written is read
 
-module _ {c : Parameters} {h : List ℕ} (A : Accepted c h) (wide : rowBits ≤ messageLength c h) (gear lamp : ℕ)
-    (allowed : isRow gear lamp ≡ true) (word : List ℕ) (lent : length word ≡ c .n) where
-  abbrev S : Selected (c .n) (whole (c .n))
-  S = whole-selected (c .n)
+module _ {c : Parameters} {h : List ℕ} (A : Accepted c h) (s : Setting) (F : Fits c s) (wide : rowBits ≤ dimension c h (columnsOf c s))
+    (gear lamp : ℕ) (allowed : isRow gear lamp ≡ true) (word : List ℕ) (lent : length word ≡ places c s) where
+  abbrev S : Selected (c .n) (columnsOf c s)
+  S = fits-selected A s F
 
   abbrev written : List ℕ
-  written = writeAfter c h gear lamp word
+  written = writeAfter c h s gear lamp word
 
-  write-none : writeFault c h gear lamp word ≡ 0
+  write-none : writeFault c h s gear lamp word ≡ 0
   unfolding writeFault
   write-none =
-      code-leaves A (eq-eqb (length word) (c .n) lent) (writeRules c h (whole (c .n)) gear lamp) ∙ write-passes A S wide gear lamp allowed
+      setting-leaves A s F refl (eq-eqb (length word) (places c s) lent) (writeRules c h (columnsOf c s) gear lamp)
+      ∙ write-passes A S wide gear lamp allowed
 
   -- every allowed row is written
-  pub row-written : writeAnswer c h gear lamp word ≡ Done
+  pub row-written : writeAnswer c h s gear lamp word ≡ Done
   unfolding writeAnswer
   row-written = given Refused Done write-none
 
-  written-is : written ≡ rowWord c h (whole (c .n)) gear lamp
+  written-is : written ≡ rowWord c h (columnsOf c s) gear lamp
   unfolding writeAfter
-  written-is = given (λ i. word) (rowWord c h (whole (c .n)) gear lamp) write-none
+  written-is = given (λ i. word) (rowWord c h (columnsOf c s) gear lamp) write-none
 
-  module _ {received : List ℕ} (bits : IsBits (c .n) received) (repaired : List ℕ) (lent′ : length repaired ≡ c .n)
-      (near : distance (c .n) received written ≤ c .t) where
-    bits′ : IsBits (length (whole (c .n))) received
-    bits′ = subst (λ (i : ℕ). IsBits i received) (sym (length-whole (c .n))) bits
+  module _ {received : List ℕ} (bits : IsBits (places c s) received) (repaired : List ℕ) (lent′ : length repaired ≡ places c s)
+      (near : distance (places c s) received written ≤ c .t) where
+    bits′ : IsBits (length (columnsOf c s)) received
+    bits′ = subst (λ (i : ℕ). IsBits i received) (sym (length-columns c s)) bits
 
-    distances : distance (length (whole (c .n))) received (rowWord c h (whole (c .n)) gear lamp) ≡ distance (c .n) received written
-    distances = ap₂ (λ (i : ℕ) (w : List ℕ). distance i received w) (length-whole (c .n)) (sym written-is)
+    distances : distance (length (columnsOf c s)) received (rowWord c h (columnsOf c s) gear lamp) ≡ distance (places c s) received written
+    distances = ap₂ (λ (i : ℕ) (w : List ℕ). distance i received w) (length-columns c s) (sym written-is)
 
-    near′ : distance (length (whole (c .n))) received (rowWord c h (whole (c .n)) gear lamp) ≤ c .t
+    near′ : distance (length (columnsOf c s)) received (rowWord c h (columnsOf c s) gear lamp) ≤ c .t
     near′ = subst (λ (d : ℕ). d ≤ c .t) (sym distances) near
 
     -- a row with at most t bits turned is read as that row, with the number of them
-    pub turned-read : readAnswer c h received repaired ≡ Read (rowOf gear lamp) (distance (c .n) received written)
+    pub turned-read : readAnswer c h s received repaired ≡ Read (rowOf gear lamp) (distance (places c s) received written)
     turned-read =
-        answer-is A received repaired (bits .long) lent′ ∙ near-read A S wide gear lamp allowed bits′ near′
+        answer-is A s F received repaired (bits .long) lent′ ∙ near-read A S wide gear lamp allowed bits′ near′
         ∙ ap (Read (rowOf gear lamp)) distances
 
     -- and the second buffer then holds what was written
-    pub turned-repaired : readAfter c h received repaired ≡ written
+    pub turned-repaired : readAfter c h s received repaired ≡ written
     turned-repaired =
-        after-is A received repaired (bits .long) lent′ ∙ near-after A S wide gear lamp allowed bits′ near′ repaired ∙ sym written-is
+        after-is A s F received repaired (bits .long) lent′ ∙ near-after A S wide gear lamp allowed bits′ near′ repaired ∙ sym written-is
 
-  written-bits : IsBits (c .n) written
+  written-bits : IsBits (places c s) written
   written-bits =
-      subst₂ IsBits (length-whole (c .n)) (sym written-is) (row-word A S wide gear lamp allowed .0 .bits)
+      subst₂ IsBits (length-columns c s) (sym written-is) (row-word A S wide gear lamp allowed .0 .bits)
 
   -- a written row is read as it was written
-  pub written-read : (repaired : List ℕ) → length repaired ≡ c .n → readAnswer c h written repaired ≡ Read (rowOf gear lamp) 0
+  pub written-read : (repaired : List ℕ) → length repaired ≡ places c s → readAnswer c h s written repaired ≡ Read (rowOf gear lamp) 0
   written-read repaired lent′ =
-      let none = distance-self (c .n) written in
+      let none = distance-self (places c s) written in
       turned-read written-bits repaired lent′ (subst (λ (d : ℕ). d ≤ c .t) (sym none) (omega arith)) ∙ ap (Read (rowOf gear lamp)) none
 
 -- ---- what is read
 
-module _ (c : Parameters) (h received repaired : List ℕ) {row : Row} {turned : ℕ} (e : readAnswer c h received repaired ≡ Read row turned) where
-  -- the code was accepted, and both buffers have n entries
-  code : Accepted c h × (length received ≡ c .n) × (length repaired ≡ c .n)
+module _ (c : Parameters) (h : List ℕ) (s : Setting) (received repaired : List ℕ) {row : Row} {turned : ℕ}
+    (e : readAnswer c h s received repaired ≡ Read row turned) where
+  abbrev Lengths : Type 0
+  Lengths = (length received ≡ places c s) × (length repaired ≡ places c s)
+
+  -- the code was accepted, and the selection, and both buffers have an entry for each place
+  code : Accepted c h × Fits c s × Lengths
   unfolding readAnswer readFault
   code =
-      let B = (eqb (length received) (c .n) && eqb (length repaired) (c .n)) in
-      let none = read-is (readFault c h received repaired) e .0 in
-      let (lent, A) = accepted B c h (first-holds (codeRules B c h) (readRules c h (whole (c .n)) received) none) in
-      let (r, s) = both-true (eqb (length received) (c .n)) (eqb (length repaired) (c .n)) lent in
-      (A, eqb-true (length received) (c .n) r, eqb-true (length repaired) (c .n) s)
+      let B = (eqb (length received) (places c s) && eqb (length repaired) (places c s)) in
+      let none = read-is (readFault c h s received repaired) e .0 in
+      let (others, words, A, F) =
+      setting-accepted c h s true B (first-holds (settingRules c h s true B) (readRules c h (columnsOf c s) received) none) in
+      let (r, w) = both-true (eqb (length received) (places c s)) (eqb (length repaired) (places c s)) words in
+      (A, F, (eqb-true (length received) (places c s) r, eqb-true (length repaired) (places c s) w))
 
-  reading : readingAnswer c h (whole (c .n)) received ≡ Read row turned
-  reading = sym (answer-is (code .0) received repaired (code .1) (code .2)) ∙ e
+  reading : readingAnswer c h (columnsOf c s) received ≡ Read row turned
+  reading =
+      let (A, F, (r, w)) = code in sym (answer-is A s F received repaired r w) ∙ e
 
-  long : length received ≡ length (whole (c .n))
-  long = code .1 ∙ sym (length-whole (c .n))
+  long : length received ≡ length (columnsOf c s)
+  long = code .2 .0 ∙ sym (length-columns c s)
 
   -- what is read is an allowed row
   pub read-allowed : isRow (row .gear) (lampNumber (row .lamp)) ≡ true
-  read-allowed = reading-allowed c h (whole (c .n)) received reading
+  read-allowed = reading-allowed c h (columnsOf c s) received reading
 
   -- and at most t bits were repaired, of an accepted code
   pub read-within : Accepted c h × (turned ≤ c .t)
-  read-within = (code .0, reading-within c h (whole (c .n)) received reading (code .0) (whole-selected (c .n)) long)
+  read-within = (code .0, reading-within c h (columnsOf c s) received reading (code .0) (fits-selected (code .0) s (code .1)) long)
 
   -- the second buffer then holds the word that is written for that row
-  pub read-repaired : (word : List ℕ) → length word ≡ c .n
-      → readAfter c h received repaired ≡ writeAfter c h (row .gear) (lampNumber (row .lamp)) word
+  pub read-repaired : (word : List ℕ) → length word ≡ places c s
+      → readAfter c h s received repaired ≡ writeAfter c h s (row .gear) (lampNumber (row .lamp)) word
   read-repaired word lent =
-      after-is (code .0) received repaired (code .1) (code .2)
-      ∙ reading-repaired c h (whole (c .n)) received reading (code .0) (whole-selected (c .n)) long repaired
-      ∙ sym (written-is (code .0) (passed c h (whole (c .n)) received reading .0) (row .gear) (lampNumber (row .lamp)) read-allowed word lent)
+      let (A, F, (r, w)) = code in
+      after-is A s F received repaired r w
+      ∙ reading-repaired c h (columnsOf c s) received reading A (fits-selected A s F) long repaired
+      ∙ sym (written-is A s F (passed c h (columnsOf c s) received reading .0) (row .gear) (lampNumber (row .lamp)) read-allowed word lent)

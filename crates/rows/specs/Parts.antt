@@ -24,7 +24,7 @@ carriedAnswer message turned =
 unfoldable pub carriedAfter : List ℕ → List ℕ → List ℕ → List ℕ
 carriedAfter message word repaired = unless-refused (fault ((11 unless isRowMessage message) ∷ [])) (λ k. repaired) word
 
--- what reading answers and leaves for a selection of columns
+-- what reading answers and leaves for a list of columns
 module _ (c : Parameters) (h cols received : List ℕ) where
   unfoldable pub readingAnswer : Reading
   readingAnswer = unless-refused (fault (readRules c h cols received)) NotRead (rowRead c h cols received)

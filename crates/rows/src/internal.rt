@@ -1,4 +1,4 @@
-// Rows of an accepted code, for any selection of its columns: place j of a word is column cols_j.
+// Rows of an accepted code, for any list of its columns: place j of a word is column cols_j.
 use crate::Reading;
 use basis::Column;
 use basis::packed::ROW;

@@ -8,13 +8,15 @@ use lib.ListN.{length}
 use borrow.Author.Tests.{eq-eqb, ne-eqb}
 use Rattle.algebra.specs.All.{all}
 use Rattle.algebra.specs.AllLaws.{all-false}
+use Rattle.algebra.specs.Distinct.{distinct}
+use Rattle.algebra.specs.DistinctLaws.{distinct-is}
 use Rattle.algebra.specs.Flags.{refuted}
 use Rattle.algebra.specs.Xor.{_⊕_}
 use Rattle.algebra.specs.XorLaws.{xor, ⊕-lt}
 use Rattle.slices.specs.Lengths.{isPower}
 use Rattle.slices.specs.LengthLaws.{power-is}
-use Rattle.signature.specs.Tests.{pairKept, affine, distinct}
-use Rattle.signature.specs.TestLaws.{distinct-is, EqualToFirst}
+use Rattle.signature.specs.Tests.{pairKept, affine}
+use Rattle.signature.specs.TestLaws.{EqualToFirst}
 use Rattle.algebra.specs.Lists.{entryOf}
 
 -- a loop that tests p at each index

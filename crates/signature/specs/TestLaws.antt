@@ -1,7 +1,7 @@
--- Each of 01's three conditions holds in the field of width m exactly if its test is true.
+-- Each of 01's first two conditions holds in the field of width m exactly if its test is true; the third is `distinct-is` of the crate algebra.
 use mathlib.Core.Path.{_≡_, ap}
 use mathlib.Core.Logic.{_↔_}
-use mathlib.Core.Bool.{Bool, true, not}
+use mathlib.Core.Bool.{true, not}
 use mathlib.Core.List.{List}
 use Prim.Native.Nat.{ℕ, _<_}
 use lib.Dec.{eqb}
@@ -10,11 +10,10 @@ use borrow.Author.Tests.{eqb-true, eqb-false, eq-eqb, ne-eqb, not-true}
 use Rattle.algebra.specs.All.{all}
 use Rattle.algebra.specs.AllLaws.{all-is, all-true}
 use Rattle.algebra.specs.Lists.{entryOf}
-use Rattle.algebra.specs.Distinct.{Distinct}
 use Rattle.algebra.specs.Xor.{_⊕_}
 use Rattle.field.specs.Gf.{gf}
 use Rattle.signature.specs.Signature.{NoZero, Linear}
-use Rattle.signature.specs.Tests.{inverseAt, nonzero, noZero, pairKept, affine, linear, distinct}
+use Rattle.signature.specs.Tests.{inverseAt, nonzero, noZero, pairKept, affine, linear}
 
 -- two equal entries put another beside the first: where this holds, 6 need only be asked of the first entry and the others
 abbrev pub EqualToFirst : List ℕ → Type 0
@@ -39,14 +38,3 @@ affine-is n f = (
 pub linear-is : (m : ℕ) (h : List ℕ) → (linear m h ≡ true) ↔ Linear (gf m) (length h) (entryOf h)
 unfolding linear inverseAt
 linear-is m h = affine-is (length h) (inverseAt m h)
-
-pub distinct-is : (h : List ℕ) → (distinct h ≡ true) ↔ Distinct (length h) (entryOf h)
-unfolding distinct
-distinct-is h = (
-  λ t i j l lj. eqb-false (entryOf h i) (entryOf h j)
-      (not-true (eqb (entryOf h i) (entryOf h j)) (all-is j (apart j) (all-is (length h) (λ j. all j (apart j)) t j lj) i l)),
-  λ d. all-true (length h) (λ j. all j (apart j)) (λ j lj. all-true j (apart j) (λ i l. ap not (ne-eqb (entryOf h i) (entryOf h j) (d i j l lj)))),
-)
-  where
-    apart : ℕ → ℕ → Bool
-    apart j i = not (eqb (entryOf h i) (entryOf h j))

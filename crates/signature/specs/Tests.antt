@@ -5,6 +5,7 @@ use Prim.Native.Nat.{ℕ}
 use lib.Dec.{eqb}
 use lib.ListN.{length}
 use Rattle.algebra.specs.All.{all}
+use Rattle.algebra.specs.Distinct.{distinct}
 use Rattle.algebra.specs.Lists.{entryOf}
 use Rattle.algebra.specs.Xor.{_⊕_}
 use Rattle.refusals.specs.Rules.{Rule, _unless_}
@@ -34,10 +35,6 @@ affine n f = all n (λ i. all n (pairKept f i))
 unfoldable pub linear : ℕ → List ℕ → Bool
 linear m h = affine (length h) (inverseAt m h)
 
--- 6, 01's "twin"
-unfoldable pub distinct : List ℕ → Bool
-distinct h = all (length h) (λ j. all j (λ i. not (eqb (entryOf h i) (entryOf h j))))
-
--- 4 to 6, 01's three conditions
+-- 4 to 6, 01's three conditions; 6 is 01's "twin"
 unfoldable pub signatureRules : ℕ → List ℕ → List Rule
 signatureRules m h = (4 unless noZero h) ∷ (5 unless linear m h) ∷ (6 unless distinct h) ∷ []

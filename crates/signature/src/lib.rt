@@ -7,13 +7,14 @@ ghost use mathlib.Core.Path.{_≡_};
 ghost use mathlib.Core.Bool.{true};
 ghost use Prim.Native.Nat.{_≤_, _<_, _^_};
 ghost use lib.ListN.{length};
+ghost use Rattle.algebra.specs.Distinct.{distinct};
 ghost use Rattle.algebra.specs.Lists.{entryOf};
 ghost use Rattle.algebra.specs.Tabulate.{tabulate};
 ghost use Rattle.algebra.specs.Filling.{filled};
 ghost use Rattle.refusals.specs.Rules.{fault};
 ghost use Rattle.slices.specs.Lengths.{isPower};
 ghost use Rattle.signature.specs.Inverses.{added, Entries, Inverted, before};
-ghost use Rattle.signature.specs.Tests.{noZero, affine, linear, distinct, signatureRules};
+ghost use Rattle.signature.specs.Tests.{noZero, affine, linear, signatureRules};
 ghost use Rattle.signature.specs.TestLaws.{EqualToFirst};
 
 // 4 to 6: 01's three conditions on a signature.

@@ -7,6 +7,7 @@ use native.Mathlib.Omega.{arith}
 use Rattle.slices.specs.Lengths.{longest}
 use Rattle.params.specs.declared.Parameters.{Parameters}
 use Rattle.params.specs.Accepted.{n-short}
+use Rattle.columns.specs.Setting.{Setting}
 use Rattle.gears.specs.declared.Row.{Row}
 use Rattle.gears.specs.Messages.{row-gear, row-lamp}
 use Rattle.gears.specs.Rows.{lampNumber}
@@ -15,11 +16,12 @@ use Rattle.rows.specs.Answers.{readAnswer}
 use Rattle.rows.specs.Laws.{read-allowed, read-within}
 use Rattle.wire.specs.Wire.{readingCode}
 
-module _ (c : Parameters) (h received repaired : List ℕ) (row : Row) (count : ℕ) (e : readAnswer c h received repaired ≡ Read row count) where
+module _ (c : Parameters) (h : List ℕ) (s : Setting) (received repaired : List ℕ) (row : Row) (count : ℕ)
+    (e : readAnswer c h s received repaired ≡ Read row count) where
   small : row .gear + 8 * lampNumber (row .lamp) + 32 * count < 2 ^ 31
   small =
-      let allowed = read-allowed c h received repaired e in
-      let (A, within) = read-within c h received repaired e in
+      let allowed = read-allowed c h s received repaired e in
+      let (A, within) = read-within c h s received repaired e in
       let short : c .n ≤ longest = n-short (A .limits) in
       let gear : row .gear < 8 = row-gear (row .gear) (lampNumber (row .lamp)) allowed in
       let lamp : lampNumber (row .lamp) < 3 = row-lamp (row .gear) (lampNumber (row .lamp)) allowed in

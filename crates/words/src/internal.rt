@@ -1,4 +1,4 @@
-// What the calls on words are made of, for an accepted code and a selection of its columns: place j of a word is column cols_j.
+// What the calls on words are made of, for an accepted code and a list of its columns: place j of a word is column cols_j.
 //
 // A function that answers a number answers the one that refuses the call, or 0, and writes its buffer only then.
 use basis::Column;

@@ -2,6 +2,7 @@
 //! results instead of the buffers, and gives either what is to be written or the refusal's number.
 
 pub mod block;
+pub mod columns;
 pub mod field;
 pub mod params;
 pub mod repair;

@@ -4,9 +4,11 @@
 //! small t, all choices of at most t places are looked through, in two halves, for one with the syndrome of the word
 //! received. Elsewhere the locator's equations are solved, and what they give is checked.
 
+use super::columns::Setting;
 use super::field;
-use super::params::{self, Params};
+use super::params;
 use super::words::{self, Code};
+use crate::bits::bits;
 use crate::Elem;
 use std::collections::HashMap;
 
@@ -34,7 +36,7 @@ enum Method {
 
 impl Decoder {
     pub fn new(code: Code) -> Decoder {
-        let method = if code.n() <= 8 {
+        let method = if code.length() <= 8 {
             Method::List(code_words_among_all_words(&code))
         } else if code.k() <= 10 {
             Method::List(code_words_of_all_messages(&code))
@@ -55,19 +57,15 @@ impl Decoder {
     }
 }
 
-/// The code words found by looking at every word of n bits.
+/// The code words found by looking at every word.
 fn code_words_among_all_words(code: &Code) -> Vec<Vec<u8>> {
-    let words = (0..1_usize << code.n()).map(|number| bits(number, code.n()));
+    let words = (0..1_usize << code.length()).map(|number| bits(number, code.length()));
     words.filter(|word| code.is_code_word(word)).collect()
 }
 
 /// The code words of all messages.
 fn code_words_of_all_messages(code: &Code) -> Vec<Vec<u8>> {
     (0..1_usize << code.k()).map(|number| code.encode(&bits(number, code.k()))).collect()
-}
-
-fn bits(number: usize, length: usize) -> Vec<u8> {
-    (0..length).map(|place| (number >> place & 1) as u8).collect()
 }
 
 /// The code word of the list within t places of the word received. Demand 3 says that there is at most one.
@@ -88,7 +86,7 @@ struct Halves {
 impl Halves {
     fn new(code: &Code) -> Halves {
         let t = code.params.t as usize;
-        let columns: Vec<u64> = (0..code.n()).map(|j| key(code.parity.iter().map(|row| row[j]))).collect();
+        let columns: Vec<u64> = (0..code.length()).map(|j| key(code.parity.iter().map(|row| row[j]))).collect();
         let larger = choices(&columns, t.div_ceil(2)).into_iter().collect();
         Halves { larger, smaller: choices(&columns, t / 2) }
     }
@@ -146,10 +144,9 @@ fn choices(columns: &[u64], most: usize) -> Vec<(u64, Vec<usize>)> {
 /// can be solved is tried, its roots among the L_j are turned, and the result is checked.
 pub fn repair_by_locator(code: &Code, received: &[u8]) -> Repaired {
     let (m, t) = (code.params.m, code.params.t as usize);
-    let support = params::support(&code.params);
     let roots = &params::roots(&code.params)[..t];
     let mut sums = vec![0; 2 * t];
-    for (&place, _) in support.iter().zip(received).filter(|(_, &bit)| bit == 1) {
+    for (&place, _) in code.support.iter().zip(received).filter(|(_, &bit)| bit == 1) {
         let goppa = roots.iter().fold(1, |product, root| field::times(m, product, place ^ root));
         let mut term = field::reciprocal(m, field::times(m, goppa, goppa));
         for sum in &mut sums {
@@ -163,7 +160,7 @@ pub fn repair_by_locator(code: &Code, received: &[u8]) -> Repaired {
         solve(m, w, equations)
     })?;
     let mut repaired = received.to_vec();
-    for (bit, &place) in repaired.iter_mut().zip(&support) {
+    for (bit, &place) in repaired.iter_mut().zip(&code.support) {
         let value = locator.iter().rev().fold(1, |value, &coefficient| field::times(m, value, place) ^ coefficient);
         *bit ^= u8::from(value == 0);
     }
@@ -204,15 +201,15 @@ fn solve(m: u32, unknowns: usize, mut equations: Vec<Vec<Elem>>) -> Option<Vec<E
 }
 
 /// The repaired word with its count, or 10.
-pub fn repair(params: &Params, received: &[u8], repaired_length: usize) -> Result<(Vec<u8>, u32), u32> {
-    params::judge(params, &[(received.len(), params.n), (repaired_length, params.n)])?;
+pub fn repair(setting: &impl Setting, received: &[u8], repaired_length: usize) -> Result<(Vec<u8>, u32), u32> {
+    let code = setting.judge(&[received.len(), repaired_length], None)?;
     words::judge_bits(received)?;
-    Decoder::new(Code::new(params)).repair(received).ok_or(10)
+    Decoder::new(code).repair(received).ok_or(10)
 }
 
 #[cfg(test)]
 mod tests {
-    use super::params::{code_a, code_t};
+    use super::params::{code_a, code_t, Params};
     use super::*;
     use crate::bits::{ones_at, turned};
     use crate::draw;
@@ -240,14 +237,14 @@ mod tests {
     fn the_methods_agree() {
         let mut random = Random::new(19);
         let mut too_far = 0;
-        for (m, n, t) in draw::shapes() {
-            let code = Code::new(&draw::params(&mut random, m, n, t));
-            let all_words = (n <= 8).then(|| code_words_among_all_words(&code));
+        for code in draw::codes(&mut random, 128) {
+            let t = code.params.t;
+            let all_words = (code.length() <= 8).then(|| code_words_among_all_words(&code));
             let all_messages = (code.k() <= 12).then(|| code_words_of_all_messages(&code));
             let halves = (t <= 4).then(|| Halves::new(&code));
-            for weight in 0..=code.n() {
+            for weight in 0..=code.length() {
                 let sent = code.encode(&random.bits(code.k()));
-                let received = turned(&sent, &random.places(code.n(), weight));
+                let received = turned(&sent, &random.places(code.length(), weight));
                 let answer = repair_by_locator(&code, &received);
                 if weight <= t as usize {
                     assert_eq!(answer, Some((sent, weight as u32)), "{:?}", code.params);
@@ -268,12 +265,11 @@ mod tests {
     #[test]
     fn the_methods_agree_on_all_words() {
         let mut random = Random::new(20);
-        for (m, n, t) in draw::shapes().into_iter().filter(|shape| shape.1 <= 8) {
-            for _ in 0..10 {
-                let code = Code::new(&draw::params(&mut random, m, n, t));
+        for _ in 0..10 {
+            for code in draw::codes(&mut random, 8) {
                 let list = code_words_among_all_words(&code);
-                for number in 0..1_usize << n {
-                    let received = bits(number, code.n());
+                for number in 0..1_usize << code.length() {
+                    let received = bits(number, code.length());
                     let nearest = nearest_of_list(&code, &list, &received);
                     assert_eq!(repair_by_locator(&code, &received), nearest, "{:?}, {received:?}", code.params);
                 }
@@ -285,14 +281,11 @@ mod tests {
     #[test]
     fn code_words_lie_far_apart() {
         let mut random = Random::new(21);
-        for (m, n, t) in draw::shapes() {
-            let code = Code::new(&draw::params(&mut random, m, n, t));
-            if code.k() <= 12 {
-                // Sums of code words are code words: what a word weighs is a distance.
-                for word in code_words_of_all_messages(&code) {
-                    let weight = word.iter().filter(|&&bit| bit == 1).count();
-                    assert!(weight == 0 || weight > 2 * t as usize, "{:?}, {word:?}", code.params);
-                }
+        for code in draw::codes(&mut random, 128).into_iter().filter(|code| code.k() <= 12) {
+            // Sums of code words are code words: what a word weighs is a distance.
+            for word in code_words_of_all_messages(&code) {
+                let weight = word.iter().filter(|&&bit| bit == 1).count();
+                assert!(weight == 0 || weight > 2 * code.params.t as usize, "{:?}, {word:?}", code.params);
             }
         }
     }

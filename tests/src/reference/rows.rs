@@ -1,6 +1,6 @@
 //! Gear rows: writing one as a code word, and reading one from the word received.
 
-use super::params::{self, Params};
+use super::columns::Setting;
 use super::repair::Decoder;
 use super::words::{self, Code};
 
@@ -41,9 +41,8 @@ fn judge_narrow(code: &Code) -> Result<(), u32> {
 }
 
 /// The word of a row.
-pub fn write(params: &Params, gear: u32, lamp: u32, word_length: usize) -> Result<Vec<u8>, u32> {
-    params::judge(params, &[(word_length, params.n)])?;
-    let code = Code::new(params);
+pub fn write(setting: &impl Setting, gear: u32, lamp: u32, word_length: usize) -> Result<Vec<u8>, u32> {
+    let code = setting.judge(&[word_length], None)?;
     judge_narrow(&code)?;
     let row = Row { gear, lamp };
     if !rows().contains(&row) {
@@ -65,10 +64,9 @@ pub fn read_word(decoder: &Decoder, received: &[u8]) -> Result<Read, u32> {
     Ok((row, repaired, count))
 }
 
-/// Reads a row: 1 to 7, then 12, then 8, then what repair refuses, then 11.
-pub fn read(params: &Params, received: &[u8], repaired_length: usize) -> Result<Read, u32> {
-    params::judge(params, &[(received.len(), params.n), (repaired_length, params.n)])?;
-    let code = Code::new(params);
+/// Reads a row: what the setting refuses, then 12, then 8, then what repair refuses, then 11.
+pub fn read(setting: &impl Setting, received: &[u8], repaired_length: usize) -> Result<Read, u32> {
+    let code = setting.judge(&[received.len(), repaired_length], None)?;
     judge_narrow(&code)?;
     words::judge_bits(received)?;
     read_word(&Decoder::new(code), received)
@@ -76,9 +74,9 @@ pub fn read(params: &Params, received: &[u8], repaired_length: usize) -> Result<
 
 #[cfg(test)]
 mod tests {
-    use super::params::{code_a, code_t};
     use super::*;
     use crate::bits::ones_at;
+    use crate::reference::params::{code_a, code_t, Params};
 
     #[test]
     fn cases() {

@@ -41,7 +41,7 @@ pub fn listing(text: &[u8]) -> Result<Vec<u8>, u32> {
     let code = Code::new(&params);
     let (support, k) = (params::support(&params), code.k() as u32);
     let mut lines = vec![vec![params.m, params.n, params.t, params.omega, params.n - k, k]];
-    for j in 0..code.n() {
+    for j in 0..code.length() {
         lines.push(vec![j as u32, params.h[j].into(), support[j].into(), code.roles[j].into()]);
     }
     let printed: String = lines.iter().map(|line| print_line(line)).collect();

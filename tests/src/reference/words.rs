@@ -1,19 +1,23 @@
-//! Words of a code: roles of the columns, syndromes, encoding and taking the message out again.
+//! Words of a code, whole or over a selection of its columns: roles of the columns, syndromes, encoding and taking the
+//! message out again.
 //!
 //! All of it comes from one row reduction of the parity matrix over the bits, from the left: a column is a sum of
 //! columns before it exactly if no row gets its first 1 there.
 
+use super::columns::Setting;
 use super::field;
 use super::params::{self, Params};
 use crate::Elem;
 
-/// An accepted code with its parity matrix.
+/// An accepted code, or some of its columns, with the parity matrix.
 #[derive(Clone)]
 pub struct Code {
     pub params: Params,
-    /// t rows of n elements, 1/(z_i + L_j).
+    /// For each place of a word L_j, j being the column that the place stands for.
+    pub support: Vec<Elem>,
+    /// t rows of an element for each place, 1/(z_i + L_j).
     pub parity: Vec<Vec<Elem>>,
-    /// For each column 1 for message and 0 for check.
+    /// For each place 1 if it is a message column's and 0 if it is a check column's.
     pub roles: Vec<u8>,
     /// The parity matrix over the bits, reduced: for each check column in rising order the row whose first 1 stands
     /// there. No other row has a 1 in that column.
@@ -21,21 +25,26 @@ pub struct Code {
 }
 
 impl Code {
-    /// The code of an accepted code.
+    /// The code of an accepted code, all columns in their order.
     pub fn new(params: &Params) -> Code {
-        assert_eq!(params::judge(params, &[]), Ok(()), "only an accepted code has a code");
-        let (roots, support) = (params::roots(params), params::support(params));
-        let entry = |i: usize, j: usize| field::reciprocal(params.m, roots[i] ^ support[j]);
-        let columns = 0..params.n as usize;
-        let parity: Vec<Vec<Elem>> =
-            (0..params.t as usize).map(|i| columns.clone().map(|j| entry(i, j)).collect()).collect();
-        let (check_columns, reduced) = reduce(bit_rows(params.m, &parity));
-        let roles = columns.map(|j| u8::from(!check_columns.contains(&j))).collect();
-        Code { params: params.clone(), parity, roles, reduced }
+        Code::over(params, (0..params.n as usize).collect())
     }
 
-    pub fn n(&self) -> usize {
-        self.params.n as usize
+    /// The code over these columns of an accepted code.
+    pub fn over(params: &Params, columns: Vec<usize>) -> Code {
+        assert_eq!(params::judge(params, &[]), Ok(()), "only an accepted code has a code");
+        let (roots, full) = (params::roots(params), params::support(params));
+        let support: Vec<Elem> = columns.into_iter().map(|j| full[j]).collect();
+        let row = |z: &Elem| support.iter().map(|l| field::reciprocal(params.m, z ^ l)).collect();
+        let parity: Vec<Vec<Elem>> = roots[..params.t as usize].iter().map(row).collect();
+        let (check_columns, reduced) = reduce(bit_rows(params.m, &parity));
+        let roles = (0..support.len()).map(|place| u8::from(!check_columns.contains(&place))).collect();
+        Code { params: params.clone(), support, parity, roles, reduced }
+    }
+
+    /// The length of a word.
+    pub fn length(&self) -> usize {
+        self.roles.len()
     }
 
     /// The count of message columns.
@@ -45,12 +54,12 @@ impl Code {
 
     /// The columns of one role, in rising order.
     fn columns(&self, role: u8) -> Vec<usize> {
-        (0..self.n()).filter(|&j| self.roles[j] == role).collect()
+        (0..self.length()).filter(|&j| self.roles[j] == role).collect()
     }
 
     /// For each row of the parity matrix the sum of its entries at the places that hold 1.
     pub fn syndrome(&self, word: &[u8]) -> Vec<Elem> {
-        let sum = |row: &Vec<Elem>| (0..self.n()).filter(|&j| word[j] == 1).fold(0, |sum, j| sum ^ row[j]);
+        let sum = |row: &Vec<Elem>| (0..self.length()).filter(|&j| word[j] == 1).fold(0, |sum, j| sum ^ row[j]);
         self.parity.iter().map(sum).collect()
     }
 
@@ -61,12 +70,13 @@ impl Code {
     /// The code word that carries the message. A reduced row says what its check column has to be: the row's sum over
     /// the word is zero, and the check column is the only one of its role in it.
     pub fn encode(&self, message: &[u8]) -> Vec<u8> {
-        let mut word = vec![0; self.n()];
+        let mut word = vec![0; self.length()];
         for (column, &bit) in self.columns(1).into_iter().zip(message) {
             word[column] = bit;
         }
         for (column, row) in self.columns(0).into_iter().zip(&self.reduced) {
-            word[column] = (0..self.n()).filter(|&j| self.roles[j] == 1).fold(0, |sum, j| sum ^ (row[j] & word[j]));
+            word[column] =
+                (0..self.length()).filter(|&j| self.roles[j] == 1).fold(0, |sum, j| sum ^ (row[j] & word[j]));
         }
         word
     }
@@ -113,23 +123,22 @@ pub fn judge_bits(bytes: &[u8]) -> Result<(), u32> {
 }
 
 /// The roles of the columns, and k.
-pub fn roles(params: &Params, roles_length: usize) -> Result<(Vec<u8>, u32), u32> {
-    params::judge(params, &[(roles_length, params.n)])?;
-    let code = Code::new(params);
-    Ok((code.roles.clone(), code.k() as u32))
+pub fn roles(setting: &impl Setting, roles_length: usize) -> Result<(Vec<u8>, u32), u32> {
+    let code = setting.judge(&[roles_length], None)?;
+    let k = code.k() as u32;
+    Ok((code.roles, k))
 }
 
 /// The t sums of a word.
-pub fn syndrome(params: &Params, word: &[u8], syndrome_length: usize) -> Result<Vec<Elem>, u32> {
-    params::judge(params, &[(word.len(), params.n), (syndrome_length, params.t)])?;
+pub fn syndrome(setting: &impl Setting, word: &[u8], syndrome_length: usize) -> Result<Vec<Elem>, u32> {
+    let code = setting.judge(&[word.len()], Some(syndrome_length))?;
     judge_bits(word)?;
-    Ok(Code::new(params).syndrome(word))
+    Ok(code.syndrome(word))
 }
 
-/// The code word of a message. The message's length is compared with k only for a code that passes 1 to 7.
-pub fn encode(params: &Params, message: &[u8], word_length: usize) -> Result<Vec<u8>, u32> {
-    params::judge(params, &[(word_length, params.n)])?;
-    let code = Code::new(params);
+/// The code word of a message. The message's length is compared with k once the setting is accepted.
+pub fn encode(setting: &impl Setting, message: &[u8], word_length: usize) -> Result<Vec<u8>, u32> {
+    let code = setting.judge(&[word_length], None)?;
     if message.len() != code.k() {
         return Err(2);
     }
@@ -138,9 +147,8 @@ pub fn encode(params: &Params, message: &[u8], word_length: usize) -> Result<Vec
 }
 
 /// The message of a word, code word or not.
-pub fn message(params: &Params, word: &[u8], message_length: usize) -> Result<Vec<u8>, u32> {
-    params::judge(params, &[(word.len(), params.n)])?;
-    let code = Code::new(params);
+pub fn message(setting: &impl Setting, word: &[u8], message_length: usize) -> Result<Vec<u8>, u32> {
+    let code = setting.judge(&[word.len()], None)?;
     if message_length != code.k() {
         return Err(2);
     }
@@ -152,7 +160,7 @@ pub fn message(params: &Params, word: &[u8], message_length: usize) -> Result<Ve
 mod tests {
     use super::params::{code_a, code_t};
     use super::*;
-    use crate::bits::ones_at;
+    use crate::bits::{bits, ones_at};
     use crate::draw;
     use crate::random::Random;
     use std::collections::HashSet;
@@ -184,11 +192,10 @@ mod tests {
     #[test]
     fn roles_by_all_choices_of_earlier_columns() {
         let mut random = Random::new(15);
-        for (m, n, t) in draw::shapes().into_iter().filter(|shape| shape.1 <= 16) {
-            let code = Code::new(&draw::params(&mut random, m, n, t));
+        for code in draw::codes(&mut random, 16) {
             // The sums of all choices among the columns before j.
-            let mut sums = HashSet::from([vec![0; t as usize]]);
-            for j in 0..code.n() {
+            let mut sums = HashSet::from([vec![0; code.params.t as usize]]);
+            for j in 0..code.length() {
                 let column = column(&code, j);
                 assert_eq!(code.roles[j], u8::from(sums.contains(&column)), "{:?}, column {j}", code.params);
                 let with_j = |sum: &Vec<Elem>| sum.iter().zip(&column).map(|(a, b)| a ^ b).collect::<Vec<Elem>>();
@@ -203,14 +210,13 @@ mod tests {
     #[test]
     fn roles_by_the_rank_of_the_columns() {
         let mut random = Random::new(18);
-        for (m, n, t) in draw::shapes() {
-            let code = Code::new(&draw::params(&mut random, m, n, t));
+        for code in draw::codes(&mut random, 128) {
             // Columns whose highest bits all differ, with the same sums as the columns so far.
             let mut independent: Vec<Vec<u8>> = Vec::new();
-            for j in 0..code.n() {
+            for j in 0..code.length() {
                 let entries = column(&code, j);
-                let mut bits: Vec<u8> =
-                    (0..m).flat_map(|bit| entries.iter().map(move |entry| u8::from(entry >> bit & 1 == 1))).collect();
+                let bit_of_column = |bit: u32| entries.iter().map(move |entry| u8::from(entry >> bit & 1 == 1));
+                let mut bits: Vec<u8> = (0..code.params.m).flat_map(bit_of_column).collect();
                 let highest = |bits: &Vec<u8>| bits.iter().rposition(|&bit| bit == 1);
                 while let Some(other) = independent.iter().find(|other| highest(other) == highest(&bits)) {
                     bits.iter_mut().zip(other).for_each(|(bit, other)| *bit ^= other);
@@ -230,9 +236,8 @@ mod tests {
     #[test]
     fn one_code_word_for_each_message() {
         let mut random = Random::new(16);
-        for (m, n, t) in draw::shapes().into_iter().filter(|shape| shape.1 <= 8) {
-            let code = Code::new(&draw::params(&mut random, m, n, t));
-            let words = (0..1_u32 << n).map(|bits| (0..n).map(|j| (bits >> j & 1) as u8).collect::<Vec<u8>>());
+        for code in draw::codes(&mut random, 8) {
+            let words = (0..1 << code.length()).map(|number| bits(number, code.length()));
             let code_words: Vec<Vec<u8>> = words.filter(|word| code.is_code_word(word)).collect();
             assert_eq!(code_words.len(), 1 << code.k(), "{:?}", code.params);
             for word in code_words {
@@ -244,8 +249,7 @@ mod tests {
     #[test]
     fn encoded_messages_are_code_words_that_carry_them() {
         let mut random = Random::new(17);
-        for (m, n, t) in draw::shapes() {
-            let code = Code::new(&draw::params(&mut random, m, n, t));
+        for code in draw::codes(&mut random, 128) {
             for _ in 0..10 {
                 let message = random.bits(code.k());
                 let word = code.encode(&message);

@@ -3,7 +3,7 @@ use mathlib.Core.Path.{refl, ap, _∙_}
 use native.Mathlib.Omega.{arith}
 use Rattle.params.specs.Accepted.{n-short}
 use Rattle.parity.specs.Columns.{rolesOf, dimension}
-use Rattle.parity.specs.Whole.{on-whole, as-long}
+use Rattle.parity.specs.Selected.{on-whole, as-long}
 use borrow.Author.Needs.{needs}
 use Rattle.lines.proofs.code_roles.Statement.{statement}
 use Rattle.lines.proofs.code_roles.Tie as tie

@@ -1,16 +1,5 @@
--- `read_row` meets its contract: the code's number, or what is read of all columns.
-use mathlib.Core.Path.{refl}
-use mathlib.Core.List.{List}
-use Prim.Native.Nat.{ℕ}
-use native.Mathlib.Omega.{arith}
-use borrow.Author.Tests.{eqb-true}
-use Rattle.algebra.specs.Flags.{both-true}
-use Rattle.refusals.specs.Rules.{Rule}
-use Rattle.parity.specs.Whole.{whole-refuses, whole-accepted, whole-short, whole-columns, whole-long, whole-passes}
-use Rattle.nearest.specs.Repair.{repairedOf}
-use Rattle.rows.specs.declared.Reading.the-variants.{Refused}
-use Rattle.rows.specs.Answers.{readRules, rowRead, readFault, readAnswer, readAfter}
-use Rattle.rows.specs.Parts.{readingAnswer, readingAfter}
+-- `read_row` meets its contract: it begins at the whole code.
+use Rattle.columns.specs.Setting.{Setting.wholeCode}
 use borrow.Author.Needs.{needs}
 use Rattle.rows.proofs.read_row.Statement.{statement}
 use Rattle.rows.proofs.read_row.Tie as tie
@@ -27,46 +16,24 @@ slice-aggregate-whole-code-inverses-2 c = search needs
 whole-code-inverses-requires : tie.Need-whole-code-inverses-requires
 whole-code-inverses-requires c κs = search needs
 
-returns : tie.Need-returns
-unfolding readAnswer readAfter readFault
-returns c =
-    let a = c .before .before .before .before .before .before .before .before .before .before .args in
-    let w = c .before .before .before .whole-code-inverses .ensures .0 in
-    (whole-refuses w _ Refused _ (c .if1 .taken), whole-refuses w _ (λ k. a .repaired .now) _ (c .if1 .taken))
+slice-aggregate-read-row : tie.Need-slice-aggregate-read-row
+slice-aggregate-read-row c = search needs
 
-slice-aggregate-read : tie.Need-slice-aggregate-read
-slice-aggregate-read c = search needs
+slice-aggregate-read-row-2 : tie.Need-slice-aggregate-read-row-2
+slice-aggregate-read-row-2 c = search needs
 
-array-share-prefix-columns : tie.Need-array-share-prefix-columns
-array-share-prefix-columns c = omega (arith, whole-short (c .before .before .before .before .whole-code-inverses .ensures .0) (c .before .if1 .left))
-
-slice-aggregate-read-2 : tie.Need-slice-aggregate-read-2
-slice-aggregate-read-2 c =
-    whole-long (c .before .before .before .before .before .whole-code-inverses .ensures .0) (c .before .before .if1 .left) refl
-
-read-requires : tie.Need-read-requires
-read-requires c κs =
-    let (w, inverted) = c .before .before .before .before .before .before .whole-code-inverses .ensures in
-    let none = c .before .before .before .if1 .left in
-    let (received, repaired) = both-true _ _ (whole-accepted w none .0) in (
-      (whole-columns w none, inverted none),
-      (whole-long w none (eqb-true _ _ received), whole-long w none (eqb-true _ _ repaired)),
-    )
+read-row-requires : tie.Need-read-row-requires
+read-row-requires c κs =
+    let (begun, inverted) = c .before .before .before .before .before .whole-code-inverses .ensures in
+    (record { at = wholeCode; begun = begun }, inverted)
 
 same-length : tie.Need-same-length
 same-length c = search needs
 
-returns-2 : tie.Need-returns-2
-unfolding readAnswer readAfter readFault readingAnswer readingAfter
-returns-2 c =
-    let a = c .before .before .before .before .before .before .before .before .before .before .before .before .before .before .before .before .args in
-    let w = c .before .before .before .before .before .before .before .before .before .whole-code-inverses .ensures .0 in
-    let none = c .before .before .before .before .before .before .if1 .left in
-    let more : List ℕ → List Rule = λ cols. readRules (a .c) (a .h .now) cols (a .received .now) in
-    let (answer, buffer) = c .before .before .read .ensures in (
-      whole-passes w none more Refused (λ cols. rowRead (a .c) (a .h .now) cols (a .received .now)) answer,
-      whole-passes w none more (λ k. a .repaired .now) (λ cols. repairedOf (a .c) (a .h .now) cols (a .received .now)) buffer,
-    )
+returns : tie.Need-returns
+returns c =
+    c .before .before .read-row .ensures wholeCode
+    (c .before .before .before .before .before .before .before .before .whole-code-inverses .ensures .0)
 
 pub read-row-spec : {M : Type 1} → statement M
 read-row-spec =
@@ -76,10 +43,8 @@ read-row-spec =
     slice-aggregate-whole-code-inverses
     slice-aggregate-whole-code-inverses-2
     whole-code-inverses-requires
-    returns
-    slice-aggregate-read
-    array-share-prefix-columns
-    slice-aggregate-read-2
-    read-requires
+    slice-aggregate-read-row
+    slice-aggregate-read-row-2
+    read-row-requires
     same-length
-    returns-2)
+    returns)

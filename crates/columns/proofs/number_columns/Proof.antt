@@ -9,10 +9,10 @@ use Rattle.algebra.specs.Tabulate.{tabulate}
 use Rattle.algebra.specs.TabulateLaws.{length-tabulate}
 use Rattle.algebra.specs.Filling.{filled, filled-start, filled-turn, length-filled}
 use Rattle.slices.specs.Lengths.{longest}
 use Rattle.parity.specs.Word.{whole}
 use borrow.Author.Needs.{needs}
-use Rattle.parity.proofs.number_columns.Statement.{statement}
-use Rattle.parity.proofs.number_columns.Tie as tie
+use Rattle.columns.proofs.number_columns.Statement.{statement}
+use Rattle.columns.proofs.number_columns.Tie as tie
 
 abbrev Inv-loop : tie.InvT-loop
 Inv-loop n columns₀ j₀ columns j =

@@ -1,0 +1,107 @@
+-- How the functions that begin a call end: refused by the code's number or by the selection's, or with the columns numbered.
+use mathlib.Core.Path.{_≡_, sym, ap, _∙_, subst}
+use mathlib.Core.Logic.{_≢_}
+use mathlib.Core.Bool.{Bool, _&&_}
+use mathlib.Core.List.{List}
+use Prim.Native.Nat.{ℕ, _*_, _/_, _<_, _≤_}
+use native.Mathlib.Nat.{div-le-self}
+use native.Mathlib.Omega.{arith}
+use lib.ListN.{length, take}
+use Rattle.algebra.specs.Tabulate.{tabulate}
+use Rattle.refusals.specs.declared.Counted.the-variants.{Count, Refused}
+use Rattle.refusals.specs.Rules.{fault}
+use Rattle.refusals.specs.RuleLaws.{fault-first, fault-rest, refuse, accept}
+use Rattle.slices.specs.Lengths.{longest}
+use Rattle.params.specs.declared.Parameters.{Parameters}
+use Rattle.params.specs.Accepted.{code-numbered, accepted, n-short}
+use Rattle.params.specs.Code.{Accepted, codeFault, codeRules}
+use Rattle.parity.specs.Word.{whole}
+use Rattle.columns.specs.Begun.{Begun, Selecting}
+use Rattle.columns.specs.Fits.{Chosen}
+use Rattle.columns.specs.SelectionLaws.{t-positive, selected-inside}
+use Rattle.columns.specs.Setting.{Setting, Setting.wholeCode, Setting.selection, selectedColumn, places, columnsOf}
+use Rattle.columns.specs.Setting.{selectionRules, settingRules}
+use Rattle.columns.specs.SettingLaws.{chosen, places-short}
+
+module _ (c : Parameters) (h : List ℕ) (s : Setting) (others words : Bool) (columns : List ℕ) where
+  begun-refused : {k : ℕ} → k ≡ fault (settingRules c h s others words) → k ≢ 0 → Begun c h s others words columns (Refused k)
+  begun-refused e ne = record { answer = refuse Refused (Count (places c s)) e ne; numbered = λ none. absurd (ne (e ∙ none)) }
+
+  begun-counted : {k : ℕ} → fault (settingRules c h s others words) ≡ 0 → k ≡ places c s → take k columns ≡ columnsOf c s
+      → Begun c h s others words columns (Count k)
+  begun-counted {k} none e numbered =
+      record {
+        answer = ap Count e ∙ accept {k = 0} Refused (Count (places c s)) (sym none) refl-zero;
+        numbered = λ z. subst (λ (i : ℕ). take i columns ≡ columnsOf c s) e numbered;
+      }
+    where
+      refl-zero : _≡_ {A = ℕ} 0 0
+      refl-zero = omega arith
+
+-- ---- the whole code
+
+module _ (c : Parameters) (h : List ℕ) (others words : Bool) (columns : List ℕ) {k : ℕ} (number : k ≡ codeFault (others && words) c h) where
+  pub whole-refused : k ≢ 0 → Begun c h wholeCode others words columns (Refused k)
+  unfolding settingRules codeFault
+  whole-refused ne = begun-refused c h wholeCode others words columns number ne
+
+  pub whole-begun : k ≡ 0 → take (c .n) columns ≡ whole (c .n) → Begun c h wholeCode others words columns (Count (c .n))
+  unfolding settingRules codeFault columnsOf
+  whole-begun none numbered = begun-counted c h wholeCode others words columns (sym number ∙ none) (omega arith) numbered
+
+  pub whole-short : k ≡ 0 → c .n ≤ longest
+  unfolding codeFault
+  whole-short none = n-short (accepted (others && words) c h (sym number ∙ none) .1 .limits)
+
+-- ---- a selection
+
+module _ (c : Parameters) (h blocks shifts : List ℕ) (others words : Bool) {k : ℕ} (number : k ≡ codeFault others c h) where
+  pub code-refused : (columns : List ℕ) → k ≢ 0 → Begun c h (selection blocks shifts) others words columns (Refused k)
+  unfolding settingRules codeFault
+  code-refused columns ne =
+      begun-refused c h (selection blocks shifts) others words columns
+      (number ∙ sym (fault-first (codeRules others c h) (selectionRules c blocks shifts words) (λ z. ne (number ∙ z)))) ne
+
+  module _ (none : k ≡ 0) where
+    code : Accepted c h
+    unfolding codeFault
+    code = accepted others c h (sym number ∙ none) .1
+
+    pub some-roots : 0 < c .t
+    some-roots = t-positive code
+
+    pub few-blocks : c .n / c .t ≤ longest
+    few-blocks =
+        let short : c .n ≤ longest = n-short (code .limits) in
+        let fewer : c .n / c .t ≤ c .n = div-le-self (c .n) (c .t) in
+        omega arith
+
+    rest : fault (settingRules c h (selection blocks shifts) others words) ≡ fault (selectionRules c blocks shifts words)
+    unfolding settingRules codeFault
+    rest = fault-rest (codeRules others c h) (selectionRules c blocks shifts words) (code-numbered others c h) (sym number ∙ none)
+
+    module _ {i : ℕ} (found : i ≡ fault (selectionRules c blocks shifts words)) where
+      pub selection-refused : (columns : List ℕ) → i ≢ 0 → Begun c h (selection blocks shifts) others words columns (Refused i)
+      selection-refused columns ne = begun-refused c h (selection blocks shifts) others words columns (found ∙ sym rest) ne
+
+      module _ (passed : i ≡ 0) where
+        is-chosen : Chosen c blocks shifts
+        is-chosen = chosen c blocks shifts words (sym found ∙ passed) .1
+
+        pub selecting : Selecting (c .t) blocks shifts
+        selecting =
+            let short : c .n ≤ longest = n-short (code .limits) in
+            record { some = some-roots; as-many = is-chosen .as-many; short = λ j l. below (selected-inside code is-chosen j l) short }
+          where
+            below : {x n : ℕ} → x < n → n ≤ longest → x < longest
+            below l s = omega arith
+
+        pub word-short : length blocks * c .t ≤ longest
+        word-short = places-short code (selection blocks shifts) is-chosen
+
+        pub selection-begun : (columns : List ℕ)
+            → take (length blocks * c .t) columns ≡ tabulate (length blocks * c .t) (selectedColumn (c .t) blocks shifts)
+            → Begun c h (selection blocks shifts) others words columns (Count (length blocks * c .t))
+        unfolding columnsOf
+        selection-begun columns numbered =
+            begun-counted c h (selection blocks shifts) others words columns (rest ∙ sym found ∙ passed) (omega arith) numbered

@@ -1,0 +1,10 @@
+pub mod Setting
+pub mod Fits
+pub mod Begun
+pub mod ShiftedSignature
+pub mod AllOf
+pub mod SelectionLaws
+pub mod SettingLaws
+pub mod BegunLaws
+pub mod DyadicBlocks
+pub mod AllBlocks

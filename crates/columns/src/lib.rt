@@ -1,0 +1,197 @@
+// Which columns of a code the places of a word stand for: those of the whole code, or of a selection of its blocks. A call on words begins here: the
+// code is tested, and what is lent, and the columns are numbered.
+//
+// The functions that begin a call answer the number of places, with as many columns at the front of `columns`, or the number that refuses the call.
+use basis::Column;
+use field::Elem;
+use params::Parameters;
+use params::code_fault_inverses;
+use refusals::Counted;
+use slices::LONGEST;
+ghost use mathlib.Core.Path.{_≡_};
+ghost use Prim.Native.Nat.{ℕ, _+_, _*_, _≤_, _<_, _/_};
+ghost use lib.Dec.{eqb};
+ghost use lib.ListN.{length, take};
+ghost use Rattle.algebra.specs.Distinct.{distinct};
+ghost use Rattle.algebra.specs.Tabulate.{tabulate};
+ghost use Rattle.algebra.specs.Xor.{_⊕_};
+ghost use Rattle.refusals.specs.Rules.{fault};
+ghost use Rattle.refusals.specs.declared.Counted.the-variants.{Count};
+ghost use Rattle.slices.specs.Lengths.{longest};
+ghost use Rattle.signature.specs.Inverses.{Inverted};
+ghost use Rattle.parity.specs.Word.{whole};
+ghost use Rattle.columns.specs.Setting.{Setting.wholeCode, Setting.selection, selectedColumn, allBelow, selectionRules};
+ghost use Rattle.columns.specs.Fits.{Below};
+ghost use Rattle.columns.specs.Begun.{Begun, Selecting};
+
+// Whether the buffers lent to a call have their lengths: the words, with an entry for each place, and others, whose lengths the code alone tells.
+pub struct Lent {
+    pub others: bool,
+    pub words: bool,
+}
+
+// The columns of a whole code of length n: place j is column j.
+pub fn number_columns(n: usize, columns: &mut [Column])
+    requires { ⌜ (n ≤ length (now columns)) × (n ≤ longest) ⌝ }
+    ensures { λ _. ⌜ take n (now (columns .exit)) ≡ whole n ⌝ }
+{
+    for j in 0..n {
+        columns[j] = j as Column;
+    }
+}
+
+// Begins a call on words of the whole code.
+pub fn whole_code(c: Parameters, h: &[Elem], lent: Lent, columns: &mut [Column]) -> Counted
+    requires { ⌜ longest ≤ length (now columns) ⌝ }
+    ensures { λ r. ⌜ Begun c (now (h .entry)) wholeCode (lent .others) (lent .words) (now (columns .exit)) r ⌝ }
+{
+    let mut inverses: [Elem; LONGEST] = [0; LONGEST];
+    whole_code_inverses(c, h, lent, &mut inverses, columns)
+}
+
+// The same, and where it is not refused `inverses` begins with the inverses of the signature's entries.
+pub fn whole_code_inverses(
+    c: Parameters,
+    h: &[Elem],
+    lent: Lent,
+    inverses: &mut [Elem],
+    columns: &mut [Column],
+) -> Counted
+    requires { ⌜ (longest ≤ length (now inverses)) × (longest ≤ length (now columns)) ⌝ }
+    ensures { λ r. ⌜ Begun c (now (h .entry)) wholeCode (lent .others) (lent .words) (now (columns .exit)) r ⌝ }
+    ensures { λ r. ⌜ ((k : ℕ) → r ≡ Count k → Inverted (c .m) (now (h .entry)) (now (inverses .exit))) ⌝ }
+{
+    let number = code_fault_inverses(c, h, lent.others & lent.words, inverses);
+    if number != 0 {
+        return Counted::Refused(number);
+    }
+    number_columns(c.n as usize, columns);
+    Counted::Count(c.n)
+}
+
+// Whether a word of this length is one of so many blocks of t places. The product may be too large for a usize, so it is the length that is divided.
+pub fn is_word_length(long: usize, blocks: usize, t: u32) -> bool
+    ensures { λ r. ⌜ r ≡ eqb long (blocks * t) ⌝ }
+{
+    let t = t as usize;
+    if t == 0 {
+        return long == 0;
+    }
+    (long / t == blocks) & (long % t == 0)
+}
+
+// Begins a call on words of a selection.
+pub fn selected_code(
+    c: Parameters,
+    h: &[Elem],
+    blocks: &[u32],
+    shifts: &[u32],
+    lent: Lent,
+    columns: &mut [Column],
+) -> Counted
+    requires { ⌜ longest ≤ length (now columns) ⌝ }
+    ensures { λ r.
+        ⌜ Begun c (now (h .entry)) (selection (now (blocks .entry)) (now (shifts .entry))) (lent .others) (lent .words) (now (columns .exit)) r ⌝ }
+{
+    let mut inverses: [Elem; LONGEST] = [0; LONGEST];
+    selected_code_inverses(c, h, blocks, shifts, lent, &mut inverses, columns)
+}
+
+// The same, and where it is not refused `inverses` begins with the inverses of the signature's entries.
+pub fn selected_code_inverses(
+    c: Parameters,
+    h: &[Elem],
+    blocks: &[u32],
+    shifts: &[u32],
+    lent: Lent,
+    inverses: &mut [Elem],
+    columns: &mut [Column],
+) -> Counted
+    requires { ⌜ (longest ≤ length (now inverses)) × (longest ≤ length (now columns)) ⌝ }
+    ensures { λ r.
+        ⌜ Begun c (now (h .entry)) (selection (now (blocks .entry)) (now (shifts .entry))) (lent .others) (lent .words) (now (columns .exit)) r ⌝ }
+    ensures { λ r. ⌜ ((k : ℕ) → r ≡ Count k → Inverted (c .m) (now (h .entry)) (now (inverses .exit))) ⌝ }
+{
+    let number = code_fault_inverses(c, h, lent.others, inverses);
+    if number != 0 {
+        return Counted::Refused(number);
+    }
+    let number = selection_fault(c, blocks, shifts, lent.words);
+    if number != 0 {
+        return Counted::Refused(number);
+    }
+    let t = c.t as usize;
+    select_columns(t, blocks, shifts, columns);
+    Counted::Count((blocks.len() * t) as u32)
+}
+
+// The number for a selection of an accepted code, where `words` says whether the lent words have their length.
+fn selection_fault(c: Parameters, blocks: &[u32], shifts: &[u32], words: bool) -> u32
+    requires { ⌜ (0 < c .t) × (c .n / c .t ≤ longest) ⌝ }
+    ensures { λ r. ⌜ r ≡ fault (selectionRules c (now (blocks .entry)) (now (shifts .entry)) words) ⌝ }
+{
+    let count = c.n / c.t;
+    let long = blocks.len();
+    if !((1 <= long) & (long <= count as usize) & (shifts.len() == long) & words) {
+        return refusals::LENGTH;
+    }
+    if !all_below(count, blocks) {
+        return refusals::NO_SUCH_BLOCK;
+    }
+    if !named_once(blocks) {
+        return refusals::NO_SUCH_BLOCK;
+    }
+    if !all_below(c.t, shifts) {
+        return refusals::SHIFT;
+    }
+    0
+}
+
+// Whether every number is below the bound.
+fn all_below(bound: u32, numbers: &[u32]) -> bool
+    ensures { λ r. ⌜ r ≡ allBelow bound (now (numbers .entry)) ⌝ }
+{
+    for i in 0..numbers.len() {
+        if bound <= numbers[i] {
+            return false;
+        }
+    }
+    true
+}
+
+// Whether no block is named twice, of blocks below LONGEST.
+fn named_once(blocks: &[u32]) -> bool
+    requires { ⌜ Below longest (now blocks) ⌝ }
+    ensures { λ r. ⌜ r ≡ distinct (now (blocks .entry)) ⌝ }
+{
+    let mut named: [bool; LONGEST] = [false; LONGEST];
+    for b in 0..blocks.len() {
+        let block = blocks[b] as usize;
+        if named[block] {
+            return false;
+        }
+        named[block] = true;
+    }
+    true
+}
+
+// Column r ⊕ shift of a block of t columns, as a column of the code.
+fn column_of(t: usize, block: u32, shift: u32, r: usize) -> Column
+    requires { ⌜ block * t + (r ⊕ shift) < longest ⌝ }
+    ensures { λ column. ⌜ column ≡ block * t + (r ⊕ shift) ⌝ }
+{
+    (block as usize * t + (r ^ shift as usize)) as Column
+}
+
+// The columns of a selection: place b·t + r is column r ⊕ shifts_b of block blocks_b.
+fn select_columns(t: usize, blocks: &[u32], shifts: &[u32], columns: &mut [Column])
+    requires { ⌜ Selecting t (now blocks) (now shifts) × (length (now blocks) * t ≤ length (now columns)) ⌝ }
+    ensures { λ _.
+        ⌜ take (length (now (blocks .entry)) * t) (now (columns .exit))
+        ≡ tabulate (length (now (blocks .entry)) * t) (selectedColumn t (now (blocks .entry)) (now (shifts .entry))) ⌝ }
+{
+    for j in 0..blocks.len() * t {
+        let b = j / t;
+        columns[j] = column_of(t, blocks[b], shifts[b], j % t);
+    }
+}

@@ -1,0 +1,72 @@
+-- `begun::repair` meets its contract: what the beginning refused is refused, and else the columns that it numbered are those of the setting.
+use mathlib.Core.List.{List}
+use Prim.Native.Nat.{ℕ}
+use borrow.Author.Tests.{eqb-true}
+use Rattle.algebra.specs.Flags.{both-true}
+use Rattle.refusals.specs.Rules.{Rule}
+use Rattle.columns.specs.BegunLaws.{begun-refuses, begun-places, begun-accepted, begun-columns, begun-long, begun-passes}
+use Rattle.nearest.specs.Repair.{repairedOf}
+use Rattle.repair.specs.declared.Recovery.the-variants.{Repaired, Refused}
+use Rattle.repair.specs.Answers.{wordRules, turnedCount, repairFault, repairAnswer, repairAfter}
+use Rattle.repair.specs.Decoding.{wordAnswer, wordAfter}
+use borrow.Author.Needs.{needs}
+use Rattle.repair.proofs.begun.repair.Statement.{statement}
+use Rattle.repair.proofs.begun.repair.Tie as tie
+
+enum-known-found : tie.Need-enum-known-found
+enum-known-found c = search needs
+
+enum-known-found-2 : tie.Need-enum-known-found-2
+enum-known-found-2 c = search needs
+
+cast-repair : tie.Need-cast-repair
+cast-repair c = search needs
+
+slice-aggregate-repair : tie.Need-slice-aggregate-repair
+slice-aggregate-repair c =
+    let e = c .before .before .found2 .given .1 in
+    let begun = c .before .before .before .before .before .before .before .before .before .pre .0 .begun in
+    begun-long begun e (begun-places begun e)
+
+repair-requires : tie.Need-repair-requires
+repair-requires c κs =
+    let e = c .before .before .before .found2 .given .1 in
+    let a = c .before .before .before .before .before .before .before .before .before .before in
+    let begun = a .pre .0 .begun in
+    let (received, repaired) = both-true _ _ (begun-accepted begun e .1) in
+    ((begun-columns begun e, a .pre .1 _ e), (begun-long begun e (eqb-true _ _ received), begun-long begun e (eqb-true _ _ repaired)))
+
+returns : tie.Need-returns
+unfolding repairAnswer repairAfter repairFault
+returns c =
+    let a = c .before .before .before .before .before .before .before .before .args in
+    let e = c .before .found .given .1 in
+    λ s begun. (begun-refuses begun e _ Refused _, begun-refuses begun e _ (λ k. a .repaired .now) _)
+
+same-length : tie.Need-same-length
+same-length c = search needs
+
+returns-2 : tie.Need-returns-2
+unfolding repairAnswer repairAfter repairFault wordAnswer wordAfter
+returns-2 c =
+    let a = c .before .before .before .before .before .before .before .before .before .before .before .before .before .args in
+    let e = c .before .before .before .before .before .before .found2 .given .1 in
+    let more : List ℕ → List Rule = λ cols. wordRules (a .c) (a .h .now) cols (a .received .now) in
+    let (answer, buffer) = c .before .before .repair .ensures in
+    λ s begun. (
+      begun-passes begun e more Refused (λ cols. Repaired (turnedCount (a .c) (a .h .now) cols (a .received .now))) answer,
+      begun-passes begun e more (λ k. a .repaired .now) (λ cols. repairedOf (a .c) (a .h .now) cols (a .received .now)) buffer,
+    )
+
+pub repair-spec : {M : Type 1} → statement M
+repair-spec =
+    tie.close
+    (tie.spec
+    enum-known-found
+    enum-known-found-2
+    cast-repair
+    slice-aggregate-repair
+    repair-requires
+    returns
+    same-length
+    returns-2)

@@ -1,0 +1,51 @@
+-- `selection::syndrome` meets its contract: it begins at the selection.
+use Rattle.columns.specs.BegunLaws.{begun-as}
+use Rattle.columns.specs.Setting.{Setting.selection}
+use borrow.Author.Needs.{needs}
+use Rattle.words.proofs.selection.syndrome.Statement.{statement}
+use Rattle.words.proofs.selection.syndrome.Tie as tie
+
+is-word-length-requires : tie.Need-is-word-length-requires
+is-word-length-requires c κs = search needs
+
+cast-t12 : tie.Need-cast-t12
+cast-t12 c = search needs
+
+slice-aggregate-selected-code : tie.Need-slice-aggregate-selected-code
+slice-aggregate-selected-code c = search needs
+
+selected-code-requires : tie.Need-selected-code-requires
+selected-code-requires c κs = search needs
+
+slice-aggregate-syndrome : tie.Need-slice-aggregate-syndrome
+slice-aggregate-syndrome c = search needs
+
+syndrome-requires : tie.Need-syndrome-requires
+syndrome-requires c κs =
+    record {
+      at = selection _ _;
+      begun = begun-as (c .before .before .before .selected-code .ensures)
+          (c .before .before .before .before .before .before .is-word-length .ensures);
+    }
+
+same-length : tie.Need-same-length
+same-length c = search needs
+
+returns : tie.Need-returns
+returns c =
+    c .before .before .syndrome .ensures (selection _ _)
+    (begun-as (c .before .before .before .before .before .before .selected-code .ensures)
+    (c .before .before .before .before .before .before .before .before .before .is-word-length .ensures))
+
+pub syndrome-spec : {M : Type 1} → statement M
+syndrome-spec =
+    tie.close
+    (tie.spec
+    is-word-length-requires
+    cast-t12
+    slice-aggregate-selected-code
+    selected-code-requires
+    slice-aggregate-syndrome
+    syndrome-requires
+    same-length
+    returns)

@@ -1,0 +1,805 @@
+//! Every call on words over a selection of a code's blocks, against the second implementation over the chosen columns.
+
+use zovunelith_tests::bits::{bits, ones_at, turned, BAD_BYTES};
+use zovunelith_tests::canary::Lent;
+use zovunelith_tests::draw::{self, CodeFault};
+use zovunelith_tests::expect::{
+    comes_back, encoding_gives, message_gives, reading_gives, repair_gives, roles_give, syndrome_gives, writing_gives,
+    Counted,
+};
+use zovunelith_tests::library;
+use zovunelith_tests::random::Random;
+use zovunelith_tests::reference::columns::{block_count, Selection, Setting};
+use zovunelith_tests::reference::field;
+use zovunelith_tests::reference::params::{code_a, code_t, Params};
+use zovunelith_tests::reference::repair::{self, Decoder};
+use zovunelith_tests::reference::rows::{self, Row};
+use zovunelith_tests::reference::words;
+use zovunelith_tests::Elem;
+
+fn selection(params: Params, blocks: &[u32], shifts: &[u32]) -> Selection {
+    Selection { params, blocks: blocks.to_vec(), shifts: shifts.to_vec() }
+}
+
+/// Compares the repair of a word, and reading a row from it, with the second implementation.
+#[track_caller]
+fn compare_received(setting: &impl Setting, decoder: &Decoder, received: &[u8]) -> Counted {
+    let expected = decoder.repair(received).ok_or(10);
+    repair_gives(setting, received, Lent::marked(received.len()), &expected);
+    reading_gives(setting, received, Lent::marked(received.len()), &rows::read_word(decoder, received));
+    expected
+}
+
+/// Compares every call with the second implementation, on random messages and words. Words are received with few, with
+/// t, with one more and with any number of places turned.
+#[track_caller]
+fn compare_all(random: &mut Random, setting: &impl Setting, decoder: &Decoder) {
+    let code = &decoder.code;
+    let (length, k, t) = (code.length(), code.k(), code.params.t as usize);
+    roles_give(setting, length, &Ok((code.roles.clone(), k as u32)));
+    let message = random.bits(k);
+    let sent = code.encode(&message);
+    encoding_gives(setting, &message, length, &Ok(sent.clone()));
+    for word in [&sent, &random.bits(length)] {
+        syndrome_gives(setting, word, t, &Ok(code.syndrome(word)));
+        message_gives(setting, word, k, &Ok(code.message(word)));
+    }
+
+    let few = random.below(t + 1);
+    for weight in [0, few, t] {
+        comes_back(setting, &sent, &random.places(length, weight));
+    }
+    for weight in [few, t, (t + 1).min(length), random.below(length + 1)] {
+        let received = turned(&sent, &random.places(length, weight));
+        compare_received(setting, decoder, &received).ok();
+    }
+
+    let row = random.pick(&rows::rows());
+    if k < rows::BITS {
+        writing_gives(setting, row.gear, row.lamp, length, &Err(12));
+        return;
+    }
+    let sent = code.encode(&rows::message(row, k));
+    writing_gives(setting, row.gear, row.lamp, length, &Ok(sent.clone()));
+    let received = turned(&sent, &random.places(length, few));
+    reading_gives(setting, &received, Lent::marked(length), &Ok((row, sent, few as u32)));
+}
+
+#[test]
+fn cases() {
+    // The columns 4, 7 and 3 of code A, the last being the sum of the others.
+    let three = selection(code_a(), &[3, 0, 2], &[0, 0, 0]);
+    roles_give(&three, 3, &Ok((vec![0, 0, 1], 1)));
+    encoding_gives(&three, &[1], 3, &Ok(vec![1, 1, 1]));
+    message_gives(&three, &[1, 0, 1], 1, &Ok(vec![1]));
+    syndrome_gives(&three, &[1, 1, 0], 1, &Ok(vec![3]));
+    comes_back(&three, &[1, 1, 1], &[1]);
+    // Code T's columns 10 and 11, then 1 and 0.
+    let two = selection(code_t(), &[5, 0], &[0, 1]);
+    syndrome_gives(&two, &[0, 0, 1, 0], 2, &Ok(vec![8, 12]));
+    syndrome_gives(&two, &[1, 0, 0, 1], 2, &Ok(vec![17 ^ 12, 4 ^ 8]));
+    roles_give(&two, 4, &Ok((vec![0; 4], 0)));
+    writing_gives(&two, 1, 0, 4, &Err(12));
+}
+
+/// Seven blocks of code T, as in the documentation of the Rust crate, and all eight, in another order and with shifts.
+#[test]
+fn seven_and_eight_blocks() {
+    let seven = selection(code_t(), &[6, 0, 3, 5, 1, 7, 2], &[1, 0, 0, 1, 0, 1, 0]);
+    let sent = vec![0, 1, 0, 0, 1, 1, 1, 0, 1, 0, 1, 1, 1, 1];
+    assert_eq!(seven.code().encode(&[1, 0, 1, 1]), sent);
+    roles_give(&seven, 14, &Ok((ones_at(14, &[8, 9, 12, 13]), 4)));
+    encoding_gives(&seven, &[1, 0, 1, 1], 14, &Ok(sent.clone()));
+    message_gives(&seven, &sent, 4, &Ok(vec![1, 0, 1, 1]));
+    for one in 0..14 {
+        comes_back(&seven, &sent, &[one]);
+        (0..one).for_each(|other| comes_back(&seven, &sent, &[other, one]));
+    }
+    // Rows need all eight.
+    writing_gives(&seven, 1, 0, 14, &Err(12));
+    let eight = selection(code_t(), &[6, 0, 3, 5, 1, 7, 2, 4], &[1, 0, 0, 1, 0, 1, 0, 1]);
+    let first_dark = ones_at(16, &[1, 4, 5, 7, 8]);
+    writing_gives(&eight, 1, 0, 16, &Ok(first_dark.clone()));
+    let read = (Row { gear: 1, lamp: 0 }, first_dark.clone(), 2);
+    reading_gives(&eight, &turned(&first_dark, &[0, 8]), Lent::marked(16), &Ok(read));
+}
+
+/// Any number of blocks of codes of every shape.
+#[test]
+fn selections_of_every_length() {
+    let mut random = Random::new(901);
+    for (m, n, t) in draw::shapes() {
+        for _ in 0..6 {
+            let params = draw::params(&mut random, m, n, t);
+            for count in 1..=block_count(&params) {
+                let selection = draw::selection(&mut random, &params, count);
+                compare_all(&mut random, &selection, &Decoder::new(selection.code()));
+            }
+        }
+    }
+}
+
+/// All blocks in reversed order, with one shift for all of them: each that there is, or some where there are many.
+#[test]
+fn reversed_blocks_with_every_shift() {
+    let mut random = Random::new(902);
+    for (m, n, t) in draw::shapes() {
+        let mut selection = Selection::all(&draw::params(&mut random, m, n, t));
+        selection.blocks.reverse();
+        for shift in draw::places_to_try(&mut random, t as usize) {
+            selection.shifts.fill(shift as u32);
+            compare_all(&mut random, &selection, &Decoder::new(selection.code()));
+        }
+    }
+}
+
+/// All blocks in their order, with no shifts, are the whole code: both give what the second implementation gives for
+/// the whole code.
+#[test]
+fn all_blocks_are_the_whole_code() {
+    let mut random = Random::new(903);
+    for (m, n, t) in draw::shapes() {
+        let params = draw::params(&mut random, m, n, t);
+        let decoder = Decoder::new(words::Code::new(&params));
+        let all = Selection::all(&params);
+        for _ in 0..4 {
+            compare_all(&mut random, &params, &decoder);
+            compare_all(&mut random, &all, &decoder);
+        }
+    }
+}
+
+/// Each block for itself with every shift. Its columns are a matrix with an inverse, so that it has no message columns,
+/// and every word is repaired to zero.
+#[test]
+fn single_blocks() {
+    let mut random = Random::new(904);
+    for (m, n, t) in draw::shapes() {
+        let (params, length) = (draw::params(&mut random, m, n, t), t as usize);
+        for block in 0..n / t {
+            for shift in 0..t {
+                let single = selection(params.clone(), &[block], &[shift]);
+                roles_give(&single, length, &Ok((vec![0; length], 0)));
+                encoding_gives(&single, &[], length, &Ok(vec![0; length]));
+                message_gives(&single, &random.bits(length), 0, &Ok(vec![]));
+                let weight = random.below(length + 1);
+                comes_back(&single, &vec![0; length], &random.places(length, weight));
+                writing_gives(&single, 0, 0, length, &Err(12));
+                reading_gives(&single, &vec![0; length], Lent::marked(length), &Err(12));
+            }
+        }
+    }
+}
+
+/// The definition by its own words: place b·t + r is column blocks_b·t + (r ⊕ shifts_b), whose entry i is the signature
+/// at i ⊕ that column.
+#[test]
+fn syndromes_of_single_places() {
+    let mut random = Random::new(905);
+    for (m, n, t) in draw::shapes() {
+        let params = draw::params(&mut random, m, n, t);
+        for count in [1 + random.below(block_count(&params)), block_count(&params)] {
+            let selection = draw::selection(&mut random, &params, count);
+            for place in 0..selection.length() {
+                let (b, r) = (place / t as usize, place as u32 % t);
+                let column = selection.blocks[b] * t + (r ^ selection.shifts[b]);
+                let entries: Vec<Elem> = (0..t).map(|i| params.h[(i ^ column) as usize]).collect();
+                let word = ones_at(selection.length(), &[place]);
+                syndrome_gives(&selection, &word, t as usize, &Ok(entries));
+            }
+        }
+    }
+}
+
+/// A word over a selection is a word of the whole code that is zero elsewhere: the library gives both one syndrome, and
+/// what it encodes over the selection is a code word of the whole code.
+#[test]
+fn words_within_the_whole_code() {
+    let mut random = Random::new(906);
+    for (m, n, t) in draw::shapes() {
+        let params = draw::params(&mut random, m, n, t);
+        for _ in 0..4 {
+            let count = 1 + random.below(block_count(&params));
+            let selection = draw::selection(&mut random, &params, count);
+            let mut sent = vec![0; selection.length()];
+            let k = library::words::roles(&selection, &mut sent).expect("accepted") as usize;
+            library::words::encode(&selection, &random.bits(k), &mut sent).expect("a message");
+            for (word, is_code_word) in [(sent, true), (random.bits(selection.length()), false)] {
+                let mut syndrome = vec![0; t as usize];
+                library::words::syndrome(&selection, &word, &mut syndrome).expect("a word");
+                assert!(!is_code_word || syndrome.iter().all(|&sum| sum == 0), "{selection:?}");
+                let mut whole = vec![0; n as usize];
+                selection.columns().into_iter().zip(word).for_each(|(column, bit)| whole[column] = bit);
+                syndrome_gives(&params, &whole, t as usize, &Ok(syndrome));
+            }
+        }
+    }
+}
+
+/// Every selection there is of a code: its blocks in every order and number, with every shift.
+fn all_selections(params: &Params) -> Vec<Selection> {
+    let mut all = vec![selection(params.clone(), &[], &[])];
+    let mut next = 0;
+    while next < all.len() {
+        let shorter = all[next].clone();
+        let unused = (0..params.n / params.t).filter(|block| !shorter.blocks.contains(block));
+        for (block, shift) in unused.flat_map(|block| (0..params.t).map(move |shift| (block, shift))) {
+            let mut longer = shorter.clone();
+            longer.blocks.push(block);
+            longer.shifts.push(shift);
+            all.push(longer);
+        }
+        next += 1;
+    }
+    all.split_off(1)
+}
+
+/// Every word over every selection of small codes.
+#[test]
+fn all_selections_of_small_codes() {
+    let mut random = Random::new(907);
+    for (m, n, t, count) in [
+        (2, 2, 1, 4),
+        (3, 4, 1, 64),
+        (3, 4, 2, 12),
+        (4, 8, 2, 632),
+        (4, 8, 4, 40),
+        (8, 4, 1, 64),
+        (8, 8, 2, 632),
+        (8, 8, 4, 40),
+    ] {
+        let selections = all_selections(&draw::params(&mut random, m, n, t));
+        assert_eq!(selections.len(), count, "{m}, {n}, {t}");
+        for selection in selections {
+            let decoder = Decoder::new(selection.code());
+            compare_all(&mut random, &selection, &decoder);
+            for number in 0..1 << selection.length() {
+                compare_received(&selection, &decoder, &bits(number, selection.length())).ok();
+            }
+        }
+    }
+}
+
+/// Words over up to 16 places with every number of places turned, against the search through all code words or all
+/// choices of places.
+#[test]
+fn turned_places_of_every_number() {
+    let mut random = Random::new(908);
+    let (mut repaired, mut too_far) = (0, 0);
+    for (m, n, t) in draw::shapes().into_iter().filter(|shape| shape.2 <= 8) {
+        let params = draw::params(&mut random, m, n, t);
+        for count in 1..=block_count(&params).min(16 / t as usize) {
+            let selection = draw::selection(&mut random, &params, count);
+            let decoder = Decoder::new(selection.code());
+            for weight in 0..=selection.length() {
+                let sent = decoder.code.encode(&random.bits(decoder.code.k()));
+                let received = turned(&sent, &random.places(selection.length(), weight));
+                match compare_received(&selection, &decoder, &received) {
+                    Ok(_) => repaired += 1,
+                    Err(_) => too_far += 1,
+                }
+            }
+        }
+    }
+    assert!(repaired > 1000 && too_far > 1000, "{repaired} repaired, {too_far} too far");
+}
+
+/// Every row with every number of turned places up to t, over selections that are wide enough, and messages that are
+/// no rows.
+#[test]
+fn rows_over_wide_selections() {
+    let mut random = Random::new(909);
+    let mut wide = 0;
+    for (m, n, t) in draw::shapes() {
+        let params = draw::params(&mut random, m, n, t);
+        let count = enough_blocks(&params);
+        for count in [count, (count + block_count(&params)) / 2] {
+            let selection = draw::selection(&mut random, &params, count);
+            let decoder = Decoder::new(selection.code());
+            let (code, length) = (&decoder.code, selection.length());
+            if code.k() < rows::BITS {
+                continue;
+            }
+            wide += 1;
+            for row in rows::rows() {
+                let sent = code.encode(&rows::message(row, code.k()));
+                writing_gives(&selection, row.gear, row.lamp, length, &Ok(sent.clone()));
+                for weight in 0..=t as usize {
+                    let received = turned(&sent, &random.places(length, weight));
+                    let expected = Ok((row, sent.clone(), weight as u32));
+                    reading_gives(&selection, &received, Lent::marked(length), &expected);
+                }
+            }
+            for (gear, lamp) in [(1, 1), (6, 1), (0, 3), (8, 0), (256, 2), (0, 256), (u32::MAX, u32::MAX)] {
+                writing_gives(&selection, gear, lamp, length, &Err(11));
+            }
+            for message in no_rows(code.k()) {
+                let weight = random.below(t as usize + 1);
+                let received = turned(&code.encode(&message), &random.places(length, weight));
+                reading_gives(&selection, &received, Lent::marked(length), &Err(11));
+            }
+        }
+    }
+    assert!(wide >= 40, "only {wide} selections were wide enough");
+}
+
+/// So many blocks that there are five message columns, or all where that needs more: the rank is at most m·t.
+fn enough_blocks(params: &Params) -> usize {
+    let places = params.m * params.t + rows::BITS as u32;
+    block_count(params).min(places.div_ceil(params.t) as usize)
+}
+
+/// Messages of k bits that are no rows: green in first gear, lamp 3, and a further bit.
+fn no_rows(k: usize) -> Vec<Vec<u8>> {
+    let further = (rows::BITS < k).then(|| ones_at(k, &[k - 1]));
+    let pairs = [Row { gear: 1, lamp: 1 }, Row { gear: 0, lamp: 3 }];
+    pairs.into_iter().map(|row| rows::message(row, k)).chain(further).collect()
+}
+
+/// Nothing depends on the offset.
+#[test]
+fn every_offset() {
+    let mut random = Random::new(910);
+    for (m, n, t, count) in [(3, 4, 1, 3), (4, 8, 2, 3), (5, 16, 2, 7), (6, 32, 2, 10), (8, 64, 4, 11)] {
+        let params = draw::params(&mut random, m, n, t);
+        let mut selection = draw::selection(&mut random, &params, count);
+        let decoder = Decoder::new(selection.code());
+        for omega in 0..field::size(m) {
+            selection.params.omega = omega;
+            compare_all(&mut random, &selection, &decoder);
+        }
+    }
+}
+
+/// A buffer's earlier contents have no part in what is written, bits or not.
+#[test]
+fn buffers_with_other_contents() {
+    let mut random = Random::new(911);
+    for (m, n, t) in draw::shapes() {
+        let params = draw::params(&mut random, m, n, t);
+        let selection = draw::selection(&mut random, &params, enough_blocks(&params));
+        let decoder = Decoder::new(selection.code());
+        let (code, length) = (&decoder.code, selection.length());
+        let message = random.bits(code.k());
+        let sent = code.encode(&message);
+        let received = turned(&sent, &random.places(length, t as usize));
+        for contents in [&random.bits(length), &sent, &received, &vec![0; length], &vec![255; length]] {
+            let mut lent = Lent::holding(contents);
+            assert_eq!(library::words::roles(&selection, lent.slice_mut()), Ok(code.k() as u32));
+            lent.assert_holds(Some(&code.roles));
+            let mut lent = Lent::holding(contents);
+            assert_eq!(library::words::encode(&selection, &message, lent.slice_mut()), Ok(()));
+            lent.assert_holds(Some(&sent));
+            let mut lent = Lent::holding(&contents[..code.k()]);
+            assert_eq!(library::words::message(&selection, &received, lent.slice_mut()), Ok(()));
+            lent.assert_holds(Some(&code.message(&received)));
+            repair_gives(&selection, &received, Lent::holding(contents), &Ok((sent.clone(), t)));
+            let read = rows::read_word(&decoder, &received);
+            reading_gives(&selection, &received, Lent::holding(contents), &read);
+        }
+    }
+}
+
+/// The calls on words.
+#[derive(Clone, Copy, Debug, PartialEq)]
+enum Call {
+    Roles,
+    Syndrome,
+    Encode,
+    Message,
+    Repair,
+    WriteRow,
+    ReadRow,
+}
+
+const CALLS: [Call; 7] =
+    [Call::Roles, Call::Syndrome, Call::Encode, Call::Message, Call::Repair, Call::WriteRow, Call::ReadRow];
+
+/// What the calls are told and lent beside a selection. Each takes its part.
+#[derive(Clone, Debug)]
+struct Input {
+    /// The word, or the word received. Where a call writes a word or roles, it is lent as many bytes.
+    word: Vec<u8>,
+    repaired_length: usize,
+    /// The message. Where a call writes one, it is lent as many bytes.
+    message: Vec<u8>,
+    syndrome_length: usize,
+    row: Row,
+}
+
+impl Input {
+    /// Faultless input, but for rows where there are fewer than five message columns.
+    fn new(random: &mut Random, decoder: &Decoder) -> Input {
+        let (code, row) = (&decoder.code, random.pick(&rows::rows()));
+        let (length, k, t) = (code.length(), code.k(), code.params.t as usize);
+        let carried = if k < rows::BITS { random.bits(k) } else { rows::message(row, k) };
+        let word = turned(&code.encode(&carried), &random.places(length, t));
+        Input { word, repaired_length: length, message: random.bits(k), syndrome_length: t, row }
+    }
+
+    /// The number that refuses a call, by the second implementation.
+    fn number(&self, call: Call, selection: &Selection) -> Option<u32> {
+        let Input { word, message, row, .. } = self;
+        match call {
+            Call::Roles => words::roles(selection, word.len()).err(),
+            Call::Syndrome => words::syndrome(selection, word, self.syndrome_length).err(),
+            Call::Encode => words::encode(selection, message, word.len()).err(),
+            Call::Message => words::message(selection, word, message.len()).err(),
+            Call::Repair => repair::repair(selection, word, self.repaired_length).err(),
+            Call::WriteRow => rows::write(selection, row.gear, row.lamp, word.len()).err(),
+            Call::ReadRow => rows::read(selection, word, self.repaired_length).err(),
+        }
+    }
+
+    /// Makes a call, which is to be refused by this number.
+    #[track_caller]
+    fn is_refused(&self, call: Call, selection: &Selection, number: u32) {
+        let Input { word, message, row, .. } = self;
+        match call {
+            Call::Roles => roles_give(selection, word.len(), &Err(number)),
+            Call::Syndrome => syndrome_gives(selection, word, self.syndrome_length, &Err(number)),
+            Call::Encode => encoding_gives(selection, message, word.len(), &Err(number)),
+            Call::Message => message_gives(selection, word, message.len(), &Err(number)),
+            Call::Repair => repair_gives(selection, word, Lent::marked(self.repaired_length), &Err(number)),
+            Call::WriteRow => writing_gives(selection, row.gear, row.lamp, word.len(), &Err(number)),
+            Call::ReadRow => reading_gives(selection, word, Lent::marked(self.repaired_length), &Err(number)),
+        }
+    }
+
+    /// Makes every call, each of which is to be refused by this number, as the selection itself is by the second
+    /// implementation.
+    #[track_caller]
+    fn is_refused_by_all(&self, selection: &Selection, number: u32) {
+        assert_eq!(selection.judge(&[self.word.len()], None).err(), Some(number), "{selection:?}");
+        CALLS.into_iter().for_each(|call| self.is_refused(call, selection, number));
+    }
+
+    /// Gives all words this length.
+    fn resize(&mut self, length: usize) {
+        self.word.resize(length, 0);
+        self.repaired_length = length;
+    }
+}
+
+/// A selection of some blocks of a code of every shape, and one of all its blocks, with faultless input for each.
+fn selections_with_input(random: &mut Random) -> Vec<(Selection, Input)> {
+    let mut drawn = Vec::new();
+    for (m, n, t) in draw::shapes() {
+        let params = draw::params(random, m, n, t);
+        for count in [1 + random.below(block_count(&params)), block_count(&params)] {
+            let selection = draw::selection(random, &params, count);
+            let input = Input::new(random, &Decoder::new(selection.code()));
+            drawn.push((selection, input));
+        }
+    }
+    drawn
+}
+
+/// Numbers of `bound` or more, among them ones that a cut to fewer bits would take to `good`.
+fn too_great(bound: u32, good: u32) -> [u32; 7] {
+    [bound, bound + 1, 2 * bound, 256 + good, 65536 + good, (1 << 31) + good, u32::MAX]
+}
+
+/// A block of n/t or more at any place is 14.
+#[test]
+fn blocks_beyond_the_last() {
+    let mut random = Random::new(912);
+    for (selection, input) in selections_with_input(&mut random) {
+        for place in draw::places_to_try(&mut random, selection.blocks.len()) {
+            for block in too_great(block_count(&selection.params) as u32, selection.blocks[place]) {
+                let mut damaged = selection.clone();
+                damaged.blocks[place] = block;
+                input.is_refused_by_all(&damaged, 14);
+            }
+        }
+    }
+}
+
+/// A block that stands at any two places is 14, whatever its shifts are.
+#[test]
+fn blocks_named_twice() {
+    let mut random = Random::new(913);
+    for (selection, input) in selections_with_input(&mut random) {
+        let places = draw::places_to_try(&mut random, selection.blocks.len());
+        for (index, &one) in places.iter().enumerate() {
+            for &other in &places[..index] {
+                let mut damaged = selection.clone();
+                damaged.blocks[one] = selection.blocks[other];
+                input.is_refused_by_all(&damaged, 14);
+            }
+        }
+    }
+}
+
+/// A shift of t or more at any place is 15.
+#[test]
+fn shifts_of_t_or_more() {
+    let mut random = Random::new(914);
+    for (selection, input) in selections_with_input(&mut random) {
+        for place in draw::places_to_try(&mut random, selection.shifts.len()) {
+            for shift in too_great(selection.params.t, selection.shifts[place]) {
+                let mut damaged = selection.clone();
+                damaged.shifts[place] = shift;
+                input.is_refused_by_all(&damaged, 15);
+            }
+        }
+    }
+}
+
+/// No blocks, and more than there are, are 2, though shifts and words go with their number; so is another number of
+/// shifts than of blocks.
+#[test]
+fn lists_of_other_lengths() {
+    let mut random = Random::new(915);
+    for (selection, input) in selections_with_input(&mut random) {
+        let (count, most) = (selection.blocks.len(), block_count(&selection.params));
+        for length in [0, most + 1, most + 2, 2 * most, 256 + count] {
+            let (mut damaged, mut input) = (selection.clone(), input.clone());
+            damaged.blocks.resize(length, 0);
+            damaged.shifts.resize(length, 0);
+            input.resize(damaged.length());
+            input.is_refused_by_all(&damaged, 2);
+        }
+        for length in [0, count - 1, count + 1, most, 2 * count, 256 + count] {
+            let mut damaged = selection.clone();
+            damaged.shifts.resize(length, 0);
+            if length != count {
+                input.is_refused_by_all(&damaged, 2);
+            }
+        }
+    }
+}
+
+/// A word of another length than ℓ·t is 2, of n bytes as well; where a call has two words, each of them.
+#[test]
+fn words_of_other_lengths() {
+    let mut random = Random::new(916);
+    for (selection, input) in selections_with_input(&mut random) {
+        let (right, t, n) = (selection.length(), selection.params.t as usize, selection.params.n as usize);
+        let lengths = [0, right - t, right - 1, right + 1, right + t, 2 * right, n, 256 + right];
+        for length in lengths.into_iter().filter(|&length| length != right) {
+            let mut both = input.clone();
+            both.resize(length);
+            both.is_refused_by_all(&selection, 2);
+            let received = Input { repaired_length: right, ..both };
+            let repaired = Input { repaired_length: length, ..input.clone() };
+            for (call, input) in [
+                (Call::Repair, &received),
+                (Call::Repair, &repaired),
+                (Call::ReadRow, &received),
+                (Call::ReadRow, &repaired),
+            ] {
+                assert_eq!(input.number(call, &selection), Some(2));
+                input.is_refused(call, &selection, 2);
+            }
+        }
+        for length in [0, t - 1, t + 1, right, n, 256 + t].into_iter().filter(|&length| length != t) {
+            let input = Input { syndrome_length: length, ..input.clone() };
+            assert_eq!(input.number(Call::Syndrome, &selection), Some(2));
+            input.is_refused(Call::Syndrome, &selection, 2);
+        }
+    }
+}
+
+/// A message of another length than the selection's own k is 2, of the whole code's k as well.
+#[test]
+fn messages_of_other_lengths() {
+    let mut random = Random::new(917);
+    for (selection, input) in selections_with_input(&mut random) {
+        let (right, whole) = (input.message.len(), words::Code::new(&selection.params).k());
+        let lengths = [0, right.saturating_sub(1), right + 1, whole, selection.length(), 256 + right];
+        for length in lengths.into_iter().filter(|&length| length != right) {
+            let input = Input { message: random.bits(length), ..input.clone() };
+            for call in [Call::Encode, Call::Message] {
+                assert_eq!(input.number(call, &selection), Some(2));
+                input.is_refused(call, &selection, 2);
+            }
+        }
+    }
+}
+
+/// A byte other than 0 or 1 at any place of a word or a message is 8, but where reading a row is refused by 12.
+#[test]
+fn bytes_that_are_no_bits() {
+    let mut random = Random::new(918);
+    for (selection, input) in selections_with_input(&mut random) {
+        for place in draw::places_to_try(&mut random, input.word.len()) {
+            let mut damaged = input.clone();
+            damaged.word[place] = random.pick(&BAD_BYTES);
+            for call in [Call::Syndrome, Call::Message, Call::Repair] {
+                damaged.is_refused(call, &selection, 8);
+            }
+            let number = if input.message.len() < rows::BITS { 12 } else { 8 };
+            damaged.is_refused(Call::ReadRow, &selection, number);
+        }
+        for place in draw::places_to_try(&mut random, input.message.len()) {
+            let mut damaged = input.clone();
+            damaged.message[place] = random.pick(&BAD_BYTES);
+            damaged.is_refused(Call::Encode, &selection, 8);
+        }
+    }
+}
+
+/// A fault of a call on a selection.
+#[derive(Clone, Copy, Debug, PartialEq)]
+enum Fault {
+    Code(CodeFault),
+    SyndromeLength,
+    NoBlocks,
+    TooManyBlocks,
+    ShiftsLength,
+    WordLength,
+    RepairedLength,
+    BeyondTheLast,
+    NamedTwice,
+    Shift,
+    MessageLength,
+    Narrow,
+    NoBit,
+    TooFar,
+    NoRow,
+}
+
+impl Fault {
+    /// When it is looked for, and its number: those of the code by their numbers, then the others one after the other.
+    /// Of several faults the one with the smallest pair is given.
+    fn rank(self) -> (u32, u32) {
+        use Fault::*;
+        match self {
+            Code(fault) => (0, fault.number()),
+            SyndromeLength => (0, 2),
+            NoBlocks | TooManyBlocks | ShiftsLength | WordLength | RepairedLength => (1, 2),
+            BeyondTheLast | NamedTwice => (2, 14),
+            Shift => (3, 15),
+            MessageLength => (4, 2),
+            Narrow => (5, 12),
+            NoBit => (6, 8),
+            TooFar => (7, 10),
+            NoRow => (8, 11),
+        }
+    }
+
+    /// Whether a call can have it.
+    fn concerns(self, call: Call) -> bool {
+        use Call::*;
+        match self {
+            Fault::SyndromeLength => call == Syndrome,
+            Fault::RepairedLength | Fault::TooFar => [Repair, ReadRow].contains(&call),
+            Fault::MessageLength => [Encode, Message].contains(&call),
+            Fault::Narrow | Fault::NoRow => [WriteRow, ReadRow].contains(&call),
+            Fault::NoBit => ![Roles, WriteRow].contains(&call),
+            _ => true,
+        }
+    }
+}
+
+/// A selection to be damaged.
+struct Intact {
+    selection: Selection,
+    decoder: Decoder,
+    /// A word that is too far from every code word, if one was met.
+    too_far: Option<Vec<u8>>,
+}
+
+impl Intact {
+    fn new(random: &mut Random, params: &Params, count: usize) -> Intact {
+        let selection = draw::selection(random, params, count);
+        let decoder = Decoder::new(selection.code());
+        let mut words = (0..100).map(|_| random.bits(selection.length()));
+        let too_far = words.find(|word| decoder.repair(word).is_none());
+        Intact { selection, decoder, too_far }
+    }
+
+    /// The selection and input for every call, with these faults if it can have them. The earlier a fault is looked
+    /// for, the later it is made: it can then cover another, which is not the one to be given, but is never covered
+    /// itself.
+    fn damaged(&self, random: &mut Random, faults: &[Fault]) -> Option<(Selection, Input)> {
+        let has = |fault: Fault| faults.contains(&fault);
+        let (mut selection, mut input) = (self.selection.clone(), Input::new(random, &self.decoder));
+        let (count, most, k) = (selection.blocks.len(), block_count(&selection.params), input.message.len());
+        let place = random.below(count);
+        if has(Fault::NoRow) {
+            input.row = random.pick(&[Row { gear: 1, lamp: 1 }, Row { gear: 8, lamp: 0 }, Row { gear: 0, lamp: 3 }]);
+            if k >= rows::BITS {
+                input.word = self.decoder.code.encode(&no_rows(k)[random.below(2)]);
+            }
+        }
+        if has(Fault::TooFar) {
+            input.word = self.too_far.clone()?;
+        }
+        if has(Fault::MessageLength) {
+            input.message = random.bits(k + 1);
+        }
+        if has(Fault::NoBit) {
+            for list in [&mut input.word, &mut input.message] {
+                let place = random.below(list.len().max(1));
+                list.iter_mut().skip(place).take(1).for_each(|byte| *byte = random.pick(&BAD_BYTES));
+            }
+        }
+        if has(Fault::Shift) {
+            selection.shifts[place] = random.pick(&too_great(selection.params.t, selection.shifts[place]));
+        }
+        if has(Fault::NamedTwice) {
+            selection.blocks[place] = selection.blocks[(place + 1) % count];
+        }
+        if has(Fault::BeyondTheLast) {
+            selection.blocks[place] = random.pick(&too_great(most as u32, selection.blocks[place]));
+        }
+        if has(Fault::TooManyBlocks) {
+            selection.blocks.resize(most + 1, 0);
+            selection.shifts.resize(most + 1, 0);
+        }
+        if has(Fault::NoBlocks) {
+            selection.blocks.clear();
+            selection.shifts.clear();
+        }
+        if has(Fault::ShiftsLength) {
+            let right = selection.shifts.len();
+            selection.shifts.resize(random.pick(&[right.saturating_sub(1), right + 1, 256 + right]), 0);
+        }
+        let right = selection.length();
+        let wrong = random.pick(&[right.saturating_sub(1), right + 1, 256 + right]);
+        input.resize(right);
+        if has(Fault::WordLength) {
+            input.word.resize(wrong, 0);
+        }
+        if has(Fault::RepairedLength) {
+            input.repaired_length = wrong;
+        }
+        let of_code = |fault: &Fault| if let Fault::Code(fault) = fault { Some(*fault) } else { None };
+        let of_code: Vec<CodeFault> = faults.iter().filter_map(of_code).collect();
+        if !of_code.is_empty() {
+            let Params { m, n, t, .. } = selection.params;
+            selection.params = draw::damaged_code(random, m, n, t, &of_code);
+        }
+        // As long as t, damaged or not, where so much can be lent.
+        let rows = selection.params.t.min(4096) as usize;
+        input.syndrome_length = if has(Fault::SyndromeLength) { rows + 1 } else { rows };
+        Some((selection, input))
+    }
+}
+
+/// The number to be given for faults that were made, and for those that a call has without: too few message columns for
+/// a row, and a syndrome that can't be as long as a damaged t. An empty message has no byte that could be no bit.
+fn first_number(call: Call, faults: &[Fault], k: usize, selection: &Selection, input: &Input) -> Option<u32> {
+    let narrow = (k < rows::BITS).then_some(Fault::Narrow);
+    let syndrome = (input.syndrome_length as u64 != u64::from(selection.params.t)).then_some(Fault::SyndromeLength);
+    let possible = |fault: &Fault| *fault != Fault::NoBit || call != Call::Encode || !input.message.is_empty();
+    let faults = faults.iter().copied().filter(possible).chain(narrow).chain(syndrome);
+    faults.filter(|fault| fault.concerns(call)).map(Fault::rank).min().map(|rank| rank.1)
+}
+
+/// Every fault and every two of them, in every call that can have them: the one that is looked for first is given.
+#[test]
+fn faults_together() {
+    use Fault::*;
+    let mut random = Random::new(919);
+    let mut refused = 0;
+    for (m, n, t) in draw::shapes() {
+        let params = draw::params(&mut random, m, n, t);
+        let least = enough_blocks(&params);
+        let count = least + random.below(block_count(&params) - least + 1);
+        let wide = Intact::new(&mut random, &params, count);
+        // Two blocks have no message columns, since code words differ in more than 2t places.
+        let narrow = Intact::new(&mut random, &params, 2);
+        let mut faults: Vec<Fault> = draw::code_faults(m, n).into_iter().map(Code).collect();
+        faults.extend([SyndromeLength, NoBlocks, TooManyBlocks, ShiftsLength, WordLength, RepairedLength]);
+        faults.extend([BeyondTheLast, NamedTwice, Shift, MessageLength, Narrow, NoBit, TooFar, NoRow]);
+        for faults in [vec![]].into_iter().chain(draw::one_or_two(&faults)) {
+            let intact = if faults.contains(&Narrow) { &narrow } else { &wide };
+            let Some((selection, input)) = intact.damaged(&mut random, &faults) else {
+                continue;
+            };
+            for call in CALLS.into_iter().filter(|&call| faults.iter().all(|fault| fault.concerns(call))) {
+                // Judged by the order of the faults as well as by the second implementation.
+                let number = first_number(call, &faults, intact.decoder.code.k(), &selection, &input);
+                assert_eq!(input.number(call, &selection), number, "{call:?}, {faults:?}: {selection:?}, {input:?}");
+                if let Some(number) = number {
+                    input.is_refused(call, &selection, number);
+                    refused += 1;
+                }
+            }
+        }
+    }
+    assert!(refused > 50_000, "only {refused} calls were refused");
+}
