@@ -17,7 +17,9 @@ extern "C" {
 /* An element of a field. */
 typedef uint8_t zov_elem;
 
-/* The field of 2^m elements, m from 2 to 8. Refused by 1 (m), then 3 (an element of 2^m or more). */
+/* The field of 2^m elements, m from 2 to 8. Refused by 1 (m), then 3 (an element of 2^m or more). All products of a width
+ * take the same number of instructions, whatever the elements are; this is counted, for many pairs, and not proved
+ * (docs/PERFORMANCE.md). */
 int32_t zov_field_sum(uint32_t m, uint32_t a, uint32_t b);
 int32_t zov_field_product(uint32_t m, uint32_t a, uint32_t b);
 
@@ -25,7 +27,8 @@ int32_t zov_field_product(uint32_t m, uint32_t a, uint32_t b);
 int32_t zov_field_inverse(uint32_t m, uint32_t a);
 
 /* Dyadic blocks: signatures of s elements, s a power of two from 1 to 128; `out` has s elements too. The value is 0.
- * Refused by 1, 2 (lengths), 3, and the inverse by 9 (the elements sum to zero). */
+ * Refused by 1, 2 (lengths), 3, and the inverse by 9 (the elements sum to zero). All products of a width and a length
+ * take the same number of instructions; this is counted, for many pairs of length 16, and not proved. */
 int32_t zov_block_sum(uint32_t m, const zov_elem *a, size_t a_length, const zov_elem *b, size_t b_length,
                       zov_elem *out, size_t out_length);
 int32_t zov_block_product(uint32_t m, const zov_elem *a, size_t a_length, const zov_elem *b, size_t b_length,

@@ -2,12 +2,14 @@
 //!
 //!     cargo run --release --offline --manifest-path bench/Cargo.toml                    times, as ratios
 //!     cargo run --release --offline --manifest-path bench/Cargo.toml instructions       instruction counts (needs valgrind)
+//!     cargo run --release --offline --manifest-path bench/Cargo.toml steps              whether products differ in theirs
 
 mod rival;
+mod steps;
 
 use std::env;
 use std::hint::black_box;
-use std::process::{exit, Command};
+use std::process::{exit, Command, Output};
 use std::time::Instant;
 use zovunelith::{block, field, sheet, Code, Lamp, Row, Selection};
 
@@ -364,17 +366,19 @@ fn once(side: &str, call: &str, shape: usize) {
     }
 }
 
-fn count(side: &str, call: &str, shape: usize) -> Option<u64> {
+/// This program once more, with these arguments, under callgrind.
+fn under_callgrind(options: &[&str], arguments: &[&str]) -> Output {
     let itself = env::current_exe().expect("this program has a path");
-    let output = Command::new("valgrind")
-        .args(["--tool=callgrind", "--callgrind-out-file=/dev/null", "--toggle-collect=zov_bench_counted"])
-        .arg(itself)
-        .args(["once", side, call, &shape.to_string()])
-        .output();
-    let Ok(output) = output else {
+    let output = Command::new("valgrind").arg("--tool=callgrind").args(options).arg(itself).args(arguments).output();
+    output.unwrap_or_else(|_| {
         eprintln!("stopped: instruction counts need valgrind");
         exit(1);
-    };
+    })
+}
+
+fn count(side: &str, call: &str, shape: usize) -> Option<u64> {
+    let options = ["--callgrind-out-file=/dev/null", "--toggle-collect=zov_bench_counted"];
+    let output = under_callgrind(&options, &["once", side, call, &shape.to_string()]);
     let report = String::from_utf8_lossy(&output.stderr).into_owned();
     report.lines().find_map(|line| line.split("Collected :").nth(1)).and_then(|number| number.trim().parse().ok())
 }
@@ -400,8 +404,10 @@ fn main() {
         [] => times(),
         ["instructions"] => instructions(),
         ["once", side, call, shape] => once(side, call, shape.parse().expect("the index of a shape")),
+        ["steps"] => steps::table(),
+        ["products", name, m] => steps::make(name, m.parse().expect("a width")),
         _ => {
-            eprintln!("usage: zovunelith-bench [instructions]");
+            eprintln!("usage: zovunelith-bench [instructions | steps]");
             exit(2);
         }
     }

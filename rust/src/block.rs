@@ -10,7 +10,8 @@ pub fn sum(m: u32, a: &[Elem], b: &[Elem], out: &mut [Elem]) -> Result<(), Refus
     done(unsafe { c::zov_block_sum(m, a.as_ptr(), a.len(), b.as_ptr(), b.len(), out.as_mut_ptr(), out.len()) })
 }
 
-/// The signature of the product of the matrices. Refused by 1, 2, 3.
+/// The signature of the product of the matrices. Refused by 1, 2, 3. All products of a width and a length take the same
+/// number of instructions; this is counted, for many pairs of length 16, and not proved.
 pub fn product(m: u32, a: &[Elem], b: &[Elem], out: &mut [Elem]) -> Result<(), Refusal> {
     // SAFETY: each pointer goes with the length of its slice; only slices that are read can overlap.
     done(unsafe { c::zov_block_product(m, a.as_ptr(), a.len(), b.as_ptr(), b.len(), out.as_mut_ptr(), out.len()) })

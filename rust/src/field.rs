@@ -9,7 +9,18 @@ pub fn sum(m: u32, a: u32, b: u32) -> Result<u32, Refusal> {
     answer(unsafe { c::zov_field_sum(m, a, b) })
 }
 
-/// The product of two elements. Refused by 1, 3.
+/// The product of two elements. Refused by 1, 3. All products of a width take the same number of instructions, whatever
+/// the elements are; this is counted, for many pairs, and not proved.
+///
+/// The number 2 is the element u, and the product by it is a shift, cut back by the width's reduction word where a bit
+/// runs over:
+///
+/// ```
+/// use zovunelith::field::product;
+///
+/// assert_eq!(product(5, 2, 0b01001), Ok(0b10010));
+/// assert_eq!(product(5, 2, 0b10001), Ok(0b100010 ^ 0x25));
+/// ```
 pub fn product(m: u32, a: u32, b: u32) -> Result<u32, Refusal> {
     // SAFETY: numbers only; every number may come.
     answer(unsafe { c::zov_field_product(m, a, b) })

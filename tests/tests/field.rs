@@ -33,6 +33,19 @@ fn sums_and_products_of_all_pairs() {
     }
 }
 
+/// The number 2 is the element u: the product by it is a shift, and where a bit runs over the word is taken away.
+#[test]
+fn products_by_u() {
+    for (m, word) in reference::WORDS {
+        for a in 0..reference::size(m) {
+            let shifted = a << 1;
+            let cut_back = if shifted >> m == 1 { shifted ^ word } else { shifted };
+            assert_eq!(library::product(m, 2, a), Ok(cut_back), "width {m}: u times {a}");
+            assert_eq!(library::product(m, a, 2), Ok(cut_back), "width {m}: {a} times u");
+        }
+    }
+}
+
 #[test]
 fn inverses_of_all_elements() {
     for (m, _) in reference::WORDS {

@@ -1,8 +1,12 @@
--- The field's calls in plain words: the inverse is the element whose product is 1, and the product is the polynomial product cut back by the word.
+-- The field's calls in plain words: the inverse is the element whose product is 1, the product is the polynomial product cut back by the word, and
+-- the product by u is a shift and one cut-back.
 use mathlib.Core.Path.{_≡_, sym, ap, _∙_, subst}
 use mathlib.Core.Logic.{_≢_, _↔_}
 use mathlib.Core.Bool.{not}
-use Prim.Native.Nat.{ℕ, _+_, _^_, _<_}
+use Prim.Native.Nat.{ℕ, _+_, _*_, _/_, _^_, _<_}
+use native.Mathlib.Nat.{lt-of-lt-of-le}
+use lib.Dec.{lit<}
+use lib.Pow.{pow-mono}
 use borrow.Author.Tests.{ne-eqb}
 use Rattle.algebra.specs.FieldLaws.{inv-unique}
 use Rattle.algebra.specs.Xor.{_⊕_}
@@ -12,6 +16,7 @@ use Rattle.field.specs.Division.{quotient, product-divides, product-only}
 use Rattle.field.specs.Gf.{Width, gf}
 use Rattle.field.specs.GfLaws.{gf-isField, gf-laws}
 use Rattle.field.specs.Product.{polyProduct, product, inverse}
+use Rattle.field.specs.ProductByU.{shift-and-cut-back}
 use Rattle.field.specs.RangeLaws.{width, element}
 use Rattle.field.specs.Ring.{product-lt}
 use Rattle.field.specs.Words.{word}
@@ -57,3 +62,9 @@ module _ {m : ℕ} (W : Width m) {a : ℕ} (a-in : a < 2 ^ m) where
         ),
     λ r. product-answer b b-in ∙ ap Element (sym (product-only m (word m) (gf-isField m W .degree) a b x (r .1 .0) (r .1 .1) a-in (r .0) (r .1 .2))),
   )
+
+-- "for every width and element … shift and cut-back give the product by u": the number 2 is u, a * 2 is a shifted, and a * 2 / 2 ^ m is the bit that
+-- ran over, by which the word is multiplied
+pub product-by-u : {m : ℕ} → Width m → (a : ℕ) → a < 2 ^ m → productAnswer m 2 a ≡ Element (a * 2 ⊕ (a * 2 / 2 ^ m) * word m)
+product-by-u {m} W a a-in =
+    product-answer W (lt-of-lt-of-le (lit< tt) (pow-mono (W .low))) a a-in ∙ ap Element (sym (shift-and-cut-back m W a a-in))

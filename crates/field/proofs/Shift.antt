@@ -8,12 +8,12 @@ use native.Mathlib.Numerals.{sub-one}
 use lib.Dec.{lit<, eqb, ltb}
 use borrow.Author.Tests.{eq-eqb, ne-eqb, lt-ltb, le-ltb}
 use lib.Pow.{pow-pos, pow-mono}
-use lib.Bits.{bitXor}
 use Rattle.algebra.specs.Xor.{_⊕_}
 use Rattle.algebra.specs.XorLaws.{⊕-assoc, ⊕-zero, zero-⊕, ⊕-lt}
-use Rattle.field.specs.Product.{product, cutBack, squares, inverse}
-use Rattle.field.specs.Horner.{timesU, horner, horner-timesU}
-use Rattle.field.specs.Ring.{Degree, timesU-lt, bit-lt, product-horner, product-lt, product-one, product-comm, product-assoc}
+use Rattle.field.specs.Product.{product, squares, inverse}
+use Rattle.field.specs.Horner.{horner, horner-timesU}
+use Rattle.field.specs.ProductByU.{over-is-bit}
+use Rattle.field.specs.Ring.{Degree, bit-lt, product-horner, product-lt, product-one, product-comm, product-assoc, product-u}
 use Rattle.field.specs.Inverse.{inverse-lt}
 use Rattle.field.specs.Words.{word, widest}
 use Rattle.field.specs.Gf.{Width}
@@ -43,12 +43,9 @@ module _ (m : ℕ) (W : Width m) where
   pub element-fits : (a : ℕ) → a < 2 ^ m → a < 2 ^ widest
   element-fits a h = lt-of-lt-of-le h (pow-mono (W .high))
 
-  carry-lt : (a : ℕ) → a < 2 ^ m → a * 2 / 2 ^ m < 2
-  carry-lt a h = div-lt-iff-lt-mul (pow-pos m) .1 (omega arith)
-
   -- the word, taken no time or once, fits
-  pub carry-fits : (a : ℕ) → a < 2 ^ m → (a * 2 / 2 ^ m) * w < 2 ^ suc widest
-  carry-fits a h = cases (a * 2 / 2 ^ m) (carry-lt a h)
+  pub over-fits : (a : ℕ) → a < 2 ^ m → (a * 2 / 2 ^ m) * w < 2 ^ suc widest
+  over-fits a h = cases (a * 2 / 2 ^ m) (over-is-bit m W a h)
     where
       word-fits : w < 2 ^ suc widest
       word-fits = lt-of-lt-of-le (D .top) (pow-mono (suc-le-suc (W .high)))
@@ -57,10 +54,6 @@ module _ (m : ℕ) (W : Width m) where
       cases zero l = subst (λ (x : ℕ). x < 2 ^ suc widest) (sym (zero-mul w)) (pow-pos (suc widest))
       cases (suc zero) l = subst (λ (x : ℕ). x < 2 ^ suc widest) (sym (one-mul w)) word-fits
       cases (suc (suc c)) l = absurd (omega arith)
-
-  pub shift-step : (a : ℕ) → a < 2 ^ m → bitXor (a * 2) ((a * 2 / 2 ^ m) * w) ≡ timesU m w a
-  unfolding timesU cutBack _⊕_
-  shift-step a h = ap (λ (c : ℕ). bitXor (a * 2) (c * w)) (sym (mod-eq-of-lt (carry-lt a h)))
 
   -- ---- the loop of the product: what is gathered, and what the bits left still add
 
@@ -83,20 +76,24 @@ module _ (m : ℕ) (W : Width m) where
       from-zero : m - 0 ≡ m
       from-zero = omega arith
 
-  horner-turn : (k bits x : ℕ) → (bits % 2) * x ⊕ horner m w k (bits / 2) (timesU m w x) ≡ horner m w (suc k) bits x
+  horner-turn : (k bits x : ℕ) → x < 2 ^ m → (bits % 2) * x ⊕ horner m w k (bits / 2) (product m w 2 x) ≡ horner m w (suc k) bits x
   unfolding horner
-  horner-turn k bits x = ap (λ (y : ℕ). (bits % 2) * x ⊕ y) (horner-timesU m w k (bits / 2) x)
+  horner-turn k bits x h =
+      ap (λ (y : ℕ). (bits % 2) * x ⊕ horner m w k (bits / 2) y) (product-u m w D x (W .low) h)
+      ∙ ap (λ (y : ℕ). (bits % 2) * x ⊕ y) (horner-timesU m w k (bits / 2) x)
 
   pub gather-turn : (a b sum shifted bits i : ℕ) → i < m → Gathering a b sum shifted bits i
-      → Gathering a b (sum ⊕ bits % 2 * shifted) (timesU m w shifted) (bits / 2) (i + 1)
+      → Gathering a b (sum ⊕ bits % 2 * shifted) (product m w 2 shifted) (bits / 2) (i + 1)
   gather-turn a b sum shifted bits i h g =
       record {
         bound = omega arith;
         sum-lt = ⊕-lt m sum (bits % 2 * shifted) (g .sum-lt) (bit-lt m w D bits shifted (g .shifted-lt));
-        shifted-lt = timesU-lt m w D shifted (g .shifted-lt);
+        shifted-lt = product-lt m w D 2 shifted;
         whole =
-            ⊕-assoc sum (bits % 2 * shifted) (horner m w (m - (i + 1)) (bits / 2) (timesU m w shifted))
-            ∙ ap (λ (x : ℕ). sum ⊕ x) (horner-turn (m - (i + 1)) bits shifted ∙ ap (λ (k : ℕ). horner m w k bits shifted) one-less) ∙ g .whole;
+            ⊕-assoc sum (bits % 2 * shifted) (horner m w (m - (i + 1)) (bits / 2) (product m w 2 shifted))
+            ∙ ap (λ (x : ℕ). sum ⊕ x)
+            (horner-turn (m - (i + 1)) bits shifted (g .shifted-lt) ∙ ap (λ (k : ℕ). horner m w k bits shifted) one-less)
+            ∙ g .whole;
       }
     where
       one-less : suc (m - (i + 1)) ≡ m - i

@@ -7,6 +7,7 @@ pub mod Words
 pub mod Test
 pub mod Gf
 pub mod GfLaws
+pub mod ProductByU
 pub mod Range
 pub mod RangeLaws
 pub mod Answers

@@ -4,7 +4,6 @@ ghost use mathlib.Core.Path.{_≡_};
 ghost use Prim.Native.Nat.{_<_, _^_};
 ghost use Rattle.field.specs.Range.{isWidth, isElement};
 ghost use Rattle.field.specs.Words.{word};
-ghost use Rattle.field.specs.Horner.{timesU};
 ghost use Rattle.field.specs.Product.{product, inverse};
 ghost use Rattle.field.specs.Gf.{Width};
 
@@ -30,11 +29,11 @@ pub fn is_element(m: u32, a: u32) -> bool
     a >> m == 0
 }
 
-// u times an element: shifted, and the width's word taken away once if the bit of u^m ran over. There is no branch, so that every product takes the
-// same steps.
+// u times an element, u being the number 2: the element shifted, and cut back by the width's word times the bit that ran over. There is no branch, so
+// that all products of a width take the same steps.
 fn times_u(m: u32, reduction: u32, a: u32) -> u32
     requires { ⌜ Width m × (reduction ≡ word m) × (a < 2 ^ m) ⌝ }
-    ensures { λ r. ⌜ (r ≡ timesU m (word m) a) × (r < 2 ^ m) ⌝ }
+    ensures { λ r. ⌜ (r ≡ product m (word m) 2 a) × (r < 2 ^ m) ⌝ }
 {
     let shifted = a * 2;
     shifted ^ (shifted >> m) * reduction

@@ -1,0 +1,104 @@
+//! The instructions of products, counted call by call: at each width they are to be one number, whatever the elements
+//! are. No proof speaks of that.
+
+use crate::{keep, under_callgrind, Random};
+use std::process::{self, exit};
+use std::{env, fs};
+use zovunelith::{block, field, Elem};
+
+/// How many elements the blocks have.
+const BLOCK: usize = 16;
+
+/// A product whose calls are counted.
+struct Product {
+    name: &'static str,
+    /// The function of the library.
+    symbol: &'static str,
+    /// How many elements a factor has.
+    length: usize,
+    /// How many calls are counted, where there are as many pairs of factors.
+    calls: usize,
+    call: fn(u32, &[Elem], &[Elem]),
+}
+
+const PRODUCTS: [Product; 2] = [
+    Product {
+        name: "field product",
+        symbol: "zov_field_product",
+        length: 1,
+        calls: 4096,
+        call: |m, a, b| keep(field::product(m, a[0].into(), b[0].into()).expect("elements")),
+    },
+    Product {
+        name: "block product",
+        symbol: "zov_block_product",
+        length: BLOCK,
+        calls: 256,
+        call: |m, a, b| block::product(m, a, b, &mut [0; BLOCK]).expect("blocks"),
+    },
+];
+
+impl Product {
+    /// All pairs of elements where they are few enough. Else pairs of factors whose elements are all least, all one or
+    /// all greatest, and then drawn ones.
+    fn pairs(&self, m: u32) -> Vec<[Vec<Elem>; 2]> {
+        let q = 1_usize << m;
+        if self.length == 1 && q * q <= self.calls {
+            return (0..q * q).map(|pair| [pair / q, pair % q].map(|element| vec![element as Elem])).collect();
+        }
+        let edges = [0, 1, q - 1].map(|element| vec![element as Elem; self.length]);
+        let mut pairs: Vec<_> = edges.iter().flat_map(|a| edges.iter().map(|b| [a.clone(), b.clone()])).collect();
+        let mut random = Random(m.into());
+        let mut factor = || (0..self.length).map(|_| random.below(q) as Elem).collect();
+        pairs.resize_with(self.calls, || [factor(), factor()]);
+        pairs
+    }
+
+    /// The instructions of each call, by callgrind: it counts inside the function alone, and starts anew after each call.
+    fn counts(&self, m: u32) -> Vec<u64> {
+        let path = env::temp_dir().join(format!("zovunelith-steps-{}", process::id()));
+        let options = [
+            format!("--callgrind-out-file={}", path.display()),
+            "--combine-dumps=yes".to_string(),
+            format!("--toggle-collect={}", self.symbol),
+            format!("--dump-after={}", self.symbol),
+        ];
+        under_callgrind(&options.each_ref().map(String::as_str), &["products", self.name, &m.to_string()]);
+        let report = fs::read_to_string(&path).expect("what callgrind has counted");
+        fs::remove_file(&path).expect("callgrind's file");
+        let totals = report.lines().filter_map(|line| line.strip_prefix("totals: "));
+        let mut counts: Vec<u64> = totals.map(|total| total.parse().expect("a number")).collect();
+        assert_eq!(counts.pop(), Some(0), "instructions are counted after the last call");
+        counts
+    }
+
+    /// How many calls were counted, and the one number of instructions of each. Stops where two differ.
+    fn counted(&self, m: u32) -> (usize, u64) {
+        let (pairs, counts) = (self.pairs(m), self.counts(m));
+        assert_eq!(counts.len(), pairs.len(), "not every call of {} was counted at width {m}", self.symbol);
+        if let Some(other) = counts.iter().position(|&count| count != counts[0]) {
+            eprintln!(
+                "stopped: at width {m} the {} of {:?} takes {} instructions, and that of {:?} takes {}",
+                self.name, pairs[0], counts[0], pairs[other], counts[other]
+            );
+            exit(1);
+        }
+        (counts.len(), counts[0])
+    }
+}
+
+/// Makes the calls of a product at a width, under callgrind.
+pub fn make(name: &str, m: u32) {
+    let product = PRODUCTS.iter().find(|product| product.name == name).expect("the name of a product");
+    product.pairs(m).iter().for_each(|[a, b]| (product.call)(m, a, b));
+}
+
+/// Counts at every width that the library takes.
+pub fn table() {
+    println!("| m | field products | instructions of each | products of blocks of {BLOCK} | instructions of each |");
+    println!("|---|---|---|---|---|");
+    for m in (0..32).filter(|&m| field::sum(m, 0, 0).is_ok()) {
+        let [(elements, of_elements), (blocks, of_blocks)] = PRODUCTS.each_ref().map(|product| product.counted(m));
+        println!("| {m} | {elements} | {of_elements} | {blocks} | {of_blocks} |");
+    }
+}
