@@ -31,7 +31,7 @@ static int32_t block_sum(void) { return zov_block_sum(M, h, N, h, N, block, N); 
 static int32_t block_product(void) { return zov_block_product(M, h, N, h, N, block, N); }
 static int32_t block_inverse(void) { return zov_block_inverse(M, h, N, block, N); }
 static int32_t check(void) { return zov_check(M, N, T, 0, h, N, roots, N, support, N); }
-static int32_t same(void) { return zov_same(M, N, T, 0, h, N, M, N, T, 1, h, N); }
+static int32_t same(void) { return zov_same(M, N, T, 0, h, N, M, N, T, 0, h, N); }
 static int32_t code_roles(void) { return zov_roles(M, N, T, 0, h, N, roles, N); }
 static int32_t word_syndrome(void) { return zov_syndrome(M, N, T, 0, h, N, received, N, syndrome, T); }
 static int32_t encode(void) { return zov_encode(M, N, T, 0, h, N, message, k, word, N); }

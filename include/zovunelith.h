@@ -40,7 +40,9 @@ int32_t zov_block_inverse(uint32_t m, const zov_elem *a, size_t a_length, zov_el
 int32_t zov_check(uint32_t m, uint32_t n, uint32_t t, uint32_t omega, const zov_elem *h, size_t h_length,
                   zov_elem *roots, size_t roots_length, zov_elem *support, size_t support_length);
 
-/* 1 if m, n, t and h of two codes agree, and 0 if not; refused by the lower number of both codes. */
+/* 1 if two codes are the same, their m, n, t, omega and h being equal, and 0 if not; refused by the lower number of both
+ * codes. Two accepted codes that differ in omega alone have other roots and another support; the functions for words,
+ * for repair and for rows, and those for selections, give the same values for both and write the same. */
 int32_t zov_same(uint32_t m1, uint32_t n1, uint32_t t1, uint32_t omega1, const zov_elem *h1, size_t h1_length,
                  uint32_t m2, uint32_t n2, uint32_t t2, uint32_t omega2, const zov_elem *h2, size_t h2_length);
 

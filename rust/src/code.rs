@@ -25,7 +25,24 @@ impl Code<'_> {
         done(call!(self, zov_check, roots.as_mut_ptr(), roots.len(), support.as_mut_ptr(), support.len()))
     }
 
-    /// Whether m, n, t and h of two codes agree. Refused by the lower number of both codes.
+    /// Whether two codes are the same: whether m, n, t, ω and h agree. Refused by the lower number of both codes.
+    ///
+    /// Two accepted codes that differ in ω alone are not the same, since their supports differ. But they answer every
+    /// call on words alike:
+    ///
+    /// ```
+    /// use zovunelith::Code;
+    ///
+    /// let code = Code { m: 3, n: 4, t: 1, omega: 0, h: &[7, 2, 3, 4] };
+    /// let moved = Code { omega: 5, ..code };
+    /// assert_eq!(code.same(&code), Ok(true));
+    /// assert_eq!(code.same(&moved), Ok(false));
+    ///
+    /// let (mut word, mut moved_word) = ([0; 4], [0; 4]);
+    /// assert_eq!(code.encode(&[1], &mut word), Ok(()));
+    /// assert_eq!(moved.encode(&[1], &mut moved_word), Ok(()));
+    /// assert_eq!(word, moved_word);
+    /// ```
     pub fn same(&self, other: &Code<'_>) -> Result<bool, Refusal> {
         let (h, length) = (other.h.as_ptr(), other.h.len());
         let same = answer(call!(self, zov_same, other.m, other.n, other.t, other.omega, h, length))?;

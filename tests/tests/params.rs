@@ -328,8 +328,7 @@ fn codes_that_are_the_same_or_differ() {
     let mut random = Random::new(312);
     for (m, n, t) in draw::shapes() {
         let params = draw::params(&mut random, m, n, t);
-        let other_offset = Params { omega: draw::element(&mut random, m).into(), ..params.clone() };
-        assert_eq!(compare_two(&params, &other_offset), Ok(true));
+        assert_eq!(compare_two(&params, &params), Ok(true));
         let other_signature = Params { h: draw::signature(&mut random, m, n), ..params.clone() };
         assert_eq!(compare_two(&params, &other_signature), Ok(params.h == other_signature.h));
         for (m2, n2, t2) in draw::shapes() {
@@ -347,6 +346,9 @@ fn codes_that_differ_in_one_number() {
         let params = draw::params(&mut random, m, n, t);
         for t2 in reference::ROWS.into_iter().filter(|&t2| t2 <= n / 2) {
             assert_eq!(compare_two(&params, &Params { t: t2, ..params.clone() }), Ok(t == t2));
+        }
+        for omega in 0..field::size(m) {
+            assert_eq!(compare_two(&params, &Params { omega, ..params.clone() }), Ok(omega == params.omega));
         }
         for (m2, _) in field::WORDS {
             let other = Params { m: m2, ..params.clone() };

@@ -200,7 +200,7 @@ fn the_zero_of_the_support() {
     }
 }
 
-/// Nothing depends on the offset.
+/// What repair gives does not depend on the offset.
 #[test]
 fn every_offset() {
     let mut random = Random::new(507);

@@ -199,7 +199,7 @@ fn narrow_codes() {
     assert!(narrow >= 40, "only {narrow} shapes were narrow");
 }
 
-/// Nothing depends on the offset.
+/// What is written and read does not depend on the offset.
 #[test]
 fn every_offset() {
     let mut random = Random::new(606);

@@ -1,6 +1,7 @@
 //! Every call on words over a selection of a code's blocks, against the second implementation over the chosen columns.
 
 use zovunelith_tests::bits::{bits, ones_at, turned, BAD_BYTES};
+use zovunelith_tests::calls::{Call, Input, CALLS};
 use zovunelith_tests::canary::Lent;
 use zovunelith_tests::draw::{self, CodeFault};
 use zovunelith_tests::expect::{
@@ -12,7 +13,7 @@ use zovunelith_tests::random::Random;
 use zovunelith_tests::reference::columns::{block_count, Selection, Setting};
 use zovunelith_tests::reference::field;
 use zovunelith_tests::reference::params::{code_a, code_t, Params};
-use zovunelith_tests::reference::repair::{self, Decoder};
+use zovunelith_tests::reference::repair::Decoder;
 use zovunelith_tests::reference::rows::{self, Row};
 use zovunelith_tests::reference::words;
 use zovunelith_tests::Elem;
@@ -336,7 +337,7 @@ fn no_rows(k: usize) -> Vec<Vec<u8>> {
     pairs.into_iter().map(|row| rows::message(row, k)).chain(further).collect()
 }
 
-/// Nothing depends on the offset.
+/// What the calls give does not depend on the offset.
 #[test]
 fn every_offset() {
     let mut random = Random::new(910);
@@ -377,87 +378,6 @@ fn buffers_with_other_contents() {
             let read = rows::read_word(&decoder, &received);
             reading_gives(&selection, &received, Lent::holding(contents), &read);
         }
-    }
-}
-
-/// The calls on words.
-#[derive(Clone, Copy, Debug, PartialEq)]
-enum Call {
-    Roles,
-    Syndrome,
-    Encode,
-    Message,
-    Repair,
-    WriteRow,
-    ReadRow,
-}
-
-const CALLS: [Call; 7] =
-    [Call::Roles, Call::Syndrome, Call::Encode, Call::Message, Call::Repair, Call::WriteRow, Call::ReadRow];
-
-/// What the calls are told and lent beside a selection. Each takes its part.
-#[derive(Clone, Debug)]
-struct Input {
-    /// The word, or the word received. Where a call writes a word or roles, it is lent as many bytes.
-    word: Vec<u8>,
-    repaired_length: usize,
-    /// The message. Where a call writes one, it is lent as many bytes.
-    message: Vec<u8>,
-    syndrome_length: usize,
-    row: Row,
-}
-
-impl Input {
-    /// Faultless input, but for rows where there are fewer than five message columns.
-    fn new(random: &mut Random, decoder: &Decoder) -> Input {
-        let (code, row) = (&decoder.code, random.pick(&rows::rows()));
-        let (length, k, t) = (code.length(), code.k(), code.params.t as usize);
-        let carried = if k < rows::BITS { random.bits(k) } else { rows::message(row, k) };
-        let word = turned(&code.encode(&carried), &random.places(length, t));
-        Input { word, repaired_length: length, message: random.bits(k), syndrome_length: t, row }
-    }
-
-    /// The number that refuses a call, by the second implementation.
-    fn number(&self, call: Call, selection: &Selection) -> Option<u32> {
-        let Input { word, message, row, .. } = self;
-        match call {
-            Call::Roles => words::roles(selection, word.len()).err(),
-            Call::Syndrome => words::syndrome(selection, word, self.syndrome_length).err(),
-            Call::Encode => words::encode(selection, message, word.len()).err(),
-            Call::Message => words::message(selection, word, message.len()).err(),
-            Call::Repair => repair::repair(selection, word, self.repaired_length).err(),
-            Call::WriteRow => rows::write(selection, row.gear, row.lamp, word.len()).err(),
-            Call::ReadRow => rows::read(selection, word, self.repaired_length).err(),
-        }
-    }
-
-    /// Makes a call, which is to be refused by this number.
-    #[track_caller]
-    fn is_refused(&self, call: Call, selection: &Selection, number: u32) {
-        let Input { word, message, row, .. } = self;
-        match call {
-            Call::Roles => roles_give(selection, word.len(), &Err(number)),
-            Call::Syndrome => syndrome_gives(selection, word, self.syndrome_length, &Err(number)),
-            Call::Encode => encoding_gives(selection, message, word.len(), &Err(number)),
-            Call::Message => message_gives(selection, word, message.len(), &Err(number)),
-            Call::Repair => repair_gives(selection, word, Lent::marked(self.repaired_length), &Err(number)),
-            Call::WriteRow => writing_gives(selection, row.gear, row.lamp, word.len(), &Err(number)),
-            Call::ReadRow => reading_gives(selection, word, Lent::marked(self.repaired_length), &Err(number)),
-        }
-    }
-
-    /// Makes every call, each of which is to be refused by this number, as the selection itself is by the second
-    /// implementation.
-    #[track_caller]
-    fn is_refused_by_all(&self, selection: &Selection, number: u32) {
-        assert_eq!(selection.judge(&[self.word.len()], None).err(), Some(number), "{selection:?}");
-        CALLS.into_iter().for_each(|call| self.is_refused(call, selection, number));
-    }
-
-    /// Gives all words this length.
-    fn resize(&mut self, length: usize) {
-        self.word.resize(length, 0);
-        self.repaired_length = length;
     }
 }
 

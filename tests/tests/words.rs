@@ -120,7 +120,7 @@ fn buffers_with_other_contents() {
     }
 }
 
-/// Nothing here depends on the offset.
+/// What the calls give does not depend on the offset.
 #[test]
 fn every_offset() {
     let mut random = Random::new(406);

@@ -7,7 +7,7 @@ use mathlib.Core.List.{List}
 use Prim.Native.Nat.{ℕ, _*_, _^_, _≤_, _<_}
 use native.Mathlib.Omega.{arith}
 use lib.Dec.{eqb}
-use lib.ListN.{length, getD}
+use lib.ListN.{length}
 use borrow.Author.Tests.{eq-eqb}
 use Rattle.algebra.specs.Flags.{both-hold}
 use Rattle.algebra.specs.Field.{Ops}
@@ -17,6 +17,7 @@ use Rattle.field.specs.Gf.{gf}
 use Rattle.field.specs.GfLaws.{gf-laws}
 use Rattle.refusals.specs.Answered.{done-none}
 use Rattle.refusals.specs.Rules.{unless-refused}
+use Rattle.refusals.specs.RuleLaws.{given}
 use Rattle.refusals.specs.declared.Outcome.the-variants.{Done, Refused}
 use Rattle.params.specs.declared.Parameters.{Parameters}
 use Rattle.signature.specs.Signature.{Cauchy, HasCauchy, rootAt, supportAt}
@@ -70,18 +71,27 @@ module _ (c : Parameters) (h roots support : List ℕ) where
         }),
   )
 
+  -- what stands in the buffers of a code that is accepted
+  pub done-root : checkAnswer c h roots support ≡ Done
+      → (i : ℕ) → i < c .n → entryOf (rootsAfter c h roots support) i ≡ rootAt (gf (c .m)) (c .omega) (entryOf h) i
+  unfolding checkAnswer rootsAfter
+  done-root e i l =
+      let roots-of : List ℕ = tabulate (c .n) (rootAt (gf (c .m)) (c .omega) (entryOf h)) in
+      ap (λ (a : List ℕ). entryOf a i) (given (λ k. roots) roots-of (done-none (checkFault c h roots support) e))
+      ∙ getD-tabulate (c .n) (rootAt (gf (c .m)) (c .omega) (entryOf h)) i 0 l
+
+  pub done-support : checkAnswer c h roots support ≡ Done
+      → (j : ℕ) → j < c .n → entryOf (supportAfter c h roots support) j ≡ supportAt (gf (c .m)) (c .omega) (entryOf h) j
+  unfolding checkAnswer supportAfter
+  done-support e j l =
+      let support-of : List ℕ = tabulate (c .n) (supportAt (gf (c .m)) (c .omega) (entryOf h)) in
+      ap (λ (a : List ℕ). entryOf a j) (given (λ k. support) support-of (done-none (checkFault c h roots support) e))
+      ∙ getD-tabulate (c .n) (supportAt (gf (c .m)) (c .omega) (entryOf h)) j 0 l
+
   -- "such a pair then comes back"
   pub done-pair : checkAnswer c h roots support ≡ Done
       → Cauchy (gf (c .m)) (c .n) (entryOf h) (entryOf (rootsAfter c h roots support)) (entryOf (supportAfter c h roots support))
-  unfolding checkAnswer rootsAfter supportAfter unless-refused
-  done-pair e =
-      let z : checkFault c h roots support ≡ 0 = done-none (checkFault c h roots support) e in
-      cauchy-cong
-      (λ i l. ap (λ (k : ℕ). getD (unless-refused k (λ j. roots) (tabulate (c .n) (rootAt (gf (c .m)) (c .omega) (entryOf h)))) i 0) z
-      ∙ getD-tabulate (c .n) (rootAt (gf (c .m)) (c .omega) (entryOf h)) i 0 l)
-      (λ i l. ap (λ (k : ℕ). getD (unless-refused k (λ j. support) (tabulate (c .n) (supportAt (gf (c .m)) (c .omega) (entryOf h)))) i 0) z
-      ∙ getD-tabulate (c .n) (supportAt (gf (c .m)) (c .omega) (entryOf h)) i 0 l)
-      (accepted-pair (done-accepted e))
+  done-pair e = cauchy-cong (done-root e) (done-support e) (accepted-pair (done-accepted e))
 
   -- "n above q/2 is therefore never accepted"
   pub done-short : checkAnswer c h roots support ≡ Done → 2 * c .n ≤ 2 ^ c .m

@@ -1,17 +1,18 @@
--- What `same` says of two accepted codes: whether m, n, t and h agree, whatever the offsets.
+-- What `same` says of two accepted codes: whether m, n, t, ω and h agree.
 use mathlib.Core.Path.{_≡_, refl, sym, ap, ap₂, _∙_}
 use mathlib.Core.Logic.{_↔_}
-use mathlib.Core.Bool.{Bool, true, false}
+use mathlib.Core.Bool.{Bool, true, false, not-eq-not}
 use mathlib.Core.List.{List}
 use Prim.Native.Nat.{ℕ}
 use native.Mathlib.Omega.{arith}
 use Rattle.refusals.specs.Rules.{unless-refused}
 use Rattle.params.specs.declared.Parameters.{Parameters}
-use Rattle.codes.specs.declared.Sameness.the-variants.{Same, Refused}
+use Rattle.codes.specs.declared.Sameness.the-variants.{Same, Different, Refused}
 use Rattle.params.specs.Accepted.{accepts}
 use Rattle.params.specs.Code.{Accepted, codeFault}
+use Rattle.codes.specs.Agree.{Agree}
 use Rattle.codes.specs.Same.{sameCode}
-use Rattle.codes.specs.SameLaws.{Agree, sameCode-is}
+use Rattle.codes.specs.SameLaws.{sameCode-is}
 use Rattle.codes.specs.Answers.{lowest, compared, sameFault, sameAnswer}
 
 compared-same : (b : Bool) → (compared b ≡ Same) ↔ (b ≡ true)
@@ -35,3 +36,7 @@ module _ {c₁ c₂ : Parameters} {h₁ h₂ : List ℕ} (A₁ : Accepted c₁ h
       let agree = sameCode c₁ h₁ c₂ h₂ in
       let is = sameCode-is c₁ h₁ c₂ h₂ in
       (λ e. is .0 (compared-same agree .0 (sym accepted-compared ∙ e)), λ p. accepted-compared ∙ compared-same agree .1 (is .1 p))
+
+  pub different : (Agree c₁ h₁ c₂ h₂ → ⊥) → sameAnswer c₁ h₁ c₂ h₂ ≡ Different
+  unfolding compared
+  different apart = accepted-compared ∙ ap compared (not-eq-not {b = false} .0 (λ t. apart (sameCode-is c₁ h₁ c₂ h₂ .0 t)))

@@ -10,22 +10,32 @@ use Rattle.algebra.specs.Flags.{both-true, both-hold}
 use Rattle.algebra.specs.Lists.{sameList}
 use Rattle.algebra.specs.ListLaws.{sameList-is}
 use Rattle.params.specs.declared.Parameters.{Parameters}
+use Rattle.codes.specs.Agree.{Agree}
 use Rattle.codes.specs.Same.{sameCode}
 
 module _ (c₁ : Parameters) (h₁ : List ℕ) (c₂ : Parameters) (h₂ : List ℕ) where
-  -- m, n, t and h agree
-  abbrev pub Agree : Type 0
-  Agree = (c₁ .m ≡ c₂ .m) × (c₁ .n ≡ c₂ .n) × (c₁ .t ≡ c₂ .t) × (h₁ ≡ h₂)
-
-  pub sameCode-is : (sameCode c₁ h₁ c₂ h₂ ≡ true) ↔ Agree
+  pub sameCode-is : (sameCode c₁ h₁ c₂ h₂ ≡ true) ↔ Agree c₁ h₁ c₂ h₂
   unfolding sameCode
-  sameCode-is = (
-    λ t.
-        let (u, h-same) = both-true (eqb (c₁ .m) (c₂ .m) && eqb (c₁ .n) (c₂ .n) && eqb (c₁ .t) (c₂ .t)) (sameList h₁ h₂) t in
-        let (v, t-same) = both-true (eqb (c₁ .m) (c₂ .m) && eqb (c₁ .n) (c₂ .n)) (eqb (c₁ .t) (c₂ .t)) u in
-        let (m-same, n-same) = both-true (eqb (c₁ .m) (c₂ .m)) (eqb (c₁ .n) (c₂ .n)) v in
-        (eqb-true (c₁ .m) (c₂ .m) m-same, eqb-true (c₁ .n) (c₂ .n) n-same, eqb-true (c₁ .t) (c₂ .t) t-same, sameList-is h₁ h₂ .0 h-same),
-    λ e.
-        both-hold (both-hold (both-hold (eq-eqb (c₁ .m) (c₂ .m) (e .0)) (eq-eqb (c₁ .n) (c₂ .n) (e .1))) (eq-eqb (c₁ .t) (c₂ .t) (e .2)))
-        (sameList-is h₁ h₂ .1 (e .3)),
-  )
+  sameCode-is =
+      let m? = eqb (c₁ .m) (c₂ .m) in
+      let n? = eqb (c₁ .n) (c₂ .n) in
+      let t? = eqb (c₁ .t) (c₂ .t) in
+      let ω? = eqb (c₁ .omega) (c₂ .omega) in (
+        λ every.
+            let (numbers, h-same) = both-true (m? && n? && t? && ω?) (sameList h₁ h₂) every in
+            let (shape, ω-same) = both-true (m? && n? && t?) ω? numbers in
+            let (lengths, t-same) = both-true (m? && n?) t? shape in
+            let (m-same, n-same) = both-true m? n? lengths in
+            record {
+              m-same = eqb-true (c₁ .m) (c₂ .m) m-same;
+              n-same = eqb-true (c₁ .n) (c₂ .n) n-same;
+              t-same = eqb-true (c₁ .t) (c₂ .t) t-same;
+              ω-same = eqb-true (c₁ .omega) (c₂ .omega) ω-same;
+              h-same = sameList-is h₁ h₂ .0 h-same;
+            },
+        λ e.
+            let lengths = both-hold (eq-eqb (c₁ .m) (c₂ .m) (e .m-same)) (eq-eqb (c₁ .n) (c₂ .n) (e .n-same)) in
+            let shape = both-hold lengths (eq-eqb (c₁ .t) (c₂ .t) (e .t-same)) in
+            let numbers = both-hold shape (eq-eqb (c₁ .omega) (c₂ .omega) (e .ω-same)) in
+            both-hold numbers (sameList-is h₁ h₂ .1 (e .h-same)),
+      )

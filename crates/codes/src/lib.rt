@@ -9,6 +9,7 @@ use slices::LONGEST;
 ghost use mathlib.Core.Path.{_≡_};
 ghost use Rattle.algebra.specs.Lists.{sameList};
 ghost use Rattle.codes.specs.Answers.{checkAnswer, rootsAfter, supportAfter, lowest, sameAnswer};
+ghost use Rattle.codes.specs.Same.{sameCode};
 
 // Whether two codes are the same.
 pub enum Sameness {
@@ -36,7 +37,7 @@ pub fn check(c: Parameters, h: &[Elem], roots: &mut [Elem], support: &mut [Elem]
     Outcome::Done
 }
 
-// Whether m, n, t and h agree. The offsets are tested as those of any code, and not compared.
+// Whether two codes are the same: whether m, n, t, ω and h agree.
 pub fn same(c1: Parameters, h1: &[Elem], c2: Parameters, h2: &[Elem]) -> Sameness
     ensures { λ r. ⌜ r ≡ sameAnswer c1 (now (h1 .entry)) c2 (now (h2 .entry)) ⌝ }
 {
@@ -44,7 +45,7 @@ pub fn same(c1: Parameters, h1: &[Elem], c2: Parameters, h2: &[Elem]) -> Samenes
     if number != 0 {
         return Sameness::Refused(number);
     }
-    if (c1.m == c2.m) & (c1.n == c2.n) & (c1.t == c2.t) & same_entries(h1, h2) {
+    if agree(c1, h1, c2, h2) {
         return Sameness::Same;
     }
     Sameness::Different
@@ -64,6 +65,12 @@ fn lower(a: u32, b: u32) -> u32
         return b;
     }
     a
+}
+
+fn agree(c1: Parameters, h1: &[Elem], c2: Parameters, h2: &[Elem]) -> bool
+    ensures { λ r. ⌜ r ≡ sameCode c1 (now (h1 .entry)) c2 (now (h2 .entry)) ⌝ }
+{
+    (c1.m == c2.m) & (c1.n == c2.n) & (c1.t == c2.t) & (c1.omega == c2.omega) & same_entries(h1, h2)
 }
 
 fn same_entries(a: &[Elem], b: &[Elem]) -> bool

@@ -8,3 +8,4 @@ pub mod SettingLaws
 pub mod BegunLaws
 pub mod DyadicBlocks
 pub mod AllBlocks
+pub mod Offsets

@@ -15,12 +15,11 @@ use Rattle.algebra.specs.Flags.{both-true, both-hold}
 use Rattle.algebra.specs.Lists.{entryOf}
 use Rattle.algebra.specs.TabulateLaws.{length-tabulate}
 use Rattle.refusals.specs.Rules.{Rule, fault, numbered}
-use Rattle.refusals.specs.RuleLaws.{fault-here, fault-past, fault-none, fault-first, fault-rest, first-holds, hold, numbered-both}
+use Rattle.refusals.specs.RuleLaws.{fault-here, fault-none, fault-first, fault-rest, first-holds, hold, numbered-both}
 use Rattle.slices.specs.Lengths.{longest}
 use Rattle.params.specs.declared.Parameters.{Parameters}
-use Rattle.params.specs.Accepted.{code-numbered, accepted, accepts}
-use Rattle.signature.specs.Tests.{signatureRules}
-use Rattle.params.specs.Code.{Accepted, shapeRules, codeRules}
+use Rattle.params.specs.Accepted.{code-numbered, accepted, accepts, lengths-fault}
+use Rattle.params.specs.Code.{Accepted, codeRules}
 use Rattle.parity.specs.Selected.{Selected, OnColumns, tabulated-selected, columns-short, length-whole, whole-selected}
 use Rattle.columns.specs.Fits.{Below, Chosen, Fits}
 use Rattle.columns.specs.SelectionLaws.{selected-inside, selected-distinct}
@@ -125,19 +124,12 @@ no-words c blocks shifts =
     fault-here 2 _ (and-false (leb 1 (length blocks) && leb (length blocks) (c .n / c .t) && eqb (length shifts) (length blocks)))
 
 -- of an accepted code and a selection that is one, a length is all that can be refused
-code-fault : {c : Parameters} {h : List ℕ} → Accepted c h → (lent : Bool) → fault (codeRules lent c h) ≡ cond lent 0 2
-unfolding codeRules shapeRules signatureRules
-code-fault {c} {h} A true = accepts true c h refl A
-code-fault {c} {h} A false =
-    let (width, (n-is, (h-long, more))) = hold (codeRules true c h) tt (accepts true c h refl A) in
-    fault-past 1 _ width (fault-past 2 _ n-is (fault-past 2 _ h-long (fault-here 2 _ refl)))
-
 pub setting-fault : {c : Parameters} {h : List ℕ} → Accepted c h → (s : Setting) → Fits c s → (others words : Bool)
     → fault (settingRules c h s others words) ≡ cond (others && words) 0 2
 unfolding settingRules
-setting-fault A wholeCode F others words = code-fault A (others && words)
+setting-fault A wholeCode F others words = lengths-fault A (others && words)
 setting-fault {c} {h} A (selection blocks shifts) F false words =
-    fault-first (codeRules false c h) (selectionRules c blocks shifts words) (λ z. two (sym (code-fault A false) ∙ z)) ∙ code-fault A false
+    fault-first (codeRules false c h) (selectionRules c blocks shifts words) (λ z. two (sym (lengths-fault A false) ∙ z)) ∙ lengths-fault A false
   where
     two : _≡_ {A = ℕ} 2 0 → ⊥
     two z = omega arith

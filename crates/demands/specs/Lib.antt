@@ -7,7 +7,10 @@ pub mod Demand3
 pub mod Rows
 pub mod Field
 pub mod Columns
+pub mod Alike
+pub mod SameMatrix
 pub mod AllBlocks
+pub mod Offsets
 pub mod Selections
 pub mod Interface
 pub mod Sheet

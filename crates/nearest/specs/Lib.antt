@@ -4,6 +4,7 @@ pub mod CodeWord
 pub mod Errors
 pub mod Exists
 pub mod Found
+pub mod SameRepair
 pub mod Places
 pub mod Repair
 pub mod Search

@@ -1,7 +1,7 @@
 -- Laws of accepted codes: no number is due for them, and for no others; their roots and their support are a Cauchy pair; and with any other offset
 -- the code is accepted too.
-use mathlib.Core.Path.{_≡_, sym, subst}
-use mathlib.Core.Bool.{Bool, true}
+use mathlib.Core.Path.{_≡_, refl, sym, ap, _∙_, subst}
+use mathlib.Core.Bool.{Bool, true, false, cond}
 use mathlib.Core.List.{List}
 use Prim.Native.Nat.{ℕ, _/_, _^_, _≤_, _<_}
 use native.Mathlib.Decide.{decLt}
@@ -17,7 +17,7 @@ use Rattle.algebra.specs.Lists.{entryOf}
 use Rattle.algebra.specs.Xor.{_⊕_}
 use Rattle.algebra.specs.XorLaws.{⊕-lt}
 use Rattle.refusals.specs.Rules.{fault, numbered}
-use Rattle.refusals.specs.RuleLaws.{fault-none, hold}
+use Rattle.refusals.specs.RuleLaws.{fault-here, fault-past, fault-none, hold}
 use Rattle.field.specs.Gf.{gf}
 use Rattle.field.specs.GfLaws.{gf-laws}
 use Rattle.field.specs.RangeLaws.{width, width-is, element, element-is}
@@ -125,6 +125,19 @@ module _ (buffers : Bool) (c : Parameters) (h : List ℕ) where
       fault-none (codeRules buffers c h)
       (is-width, (is-length, (h-long, (lent, (h-elements, (ω-element, (no-zero, (is-linear, (is-distinct, (is-count, tt))))))))))
 
+-- of an accepted code, a length is all that can be refused
+pub lengths-fault : {c : Parameters} {h : List ℕ} → Accepted c h → (buffers : Bool) → fault (codeRules buffers c h) ≡ cond buffers 0 2
+unfolding codeRules shapeRules signatureRules
+lengths-fault {c} {h} A true = accepts true c h refl A
+lengths-fault {c} {h} A false =
+    let (width, (n-is, (h-long, more))) = hold (codeRules true c h) tt (accepts true c h refl A) in
+    fault-past 1 _ width (fault-past 2 _ n-is (fault-past 2 _ h-long (fault-here 2 _ refl)))
+
+-- so that of any two the same number is due
+pub accepted-fault : {c₁ c₂ : Parameters} {h₁ h₂ : List ℕ} → Accepted c₁ h₁ → Accepted c₂ h₂ → (buffers : Bool)
+    → fault (codeRules buffers c₁ h₁) ≡ fault (codeRules buffers c₂ h₂)
+accepted-fault A₁ A₂ buffers = lengths-fault A₁ buffers ∙ sym (lengths-fault A₂ buffers)
+
 -- ---- the pair
 
 -- the roots and the support of an accepted code
@@ -137,7 +150,14 @@ accepted-pair {c} {h} A =
 
 -- ---- "for every offset"
 
--- whatever stands in its place is accepted too
+-- two codes that differ in the offset alone, if at all, are a code and the same with another offset
+pub with-offset : (c₁ c₂ : Parameters) → c₁ .m ≡ c₂ .m → c₁ .n ≡ c₂ .n → c₁ .t ≡ c₂ .t → c₂ ≡ withOffset c₁ (c₂ .omega)
+with-offset c₁ c₂ m-same n-same t-same =
+    ap (λ (m : ℕ). record { m = m; n = c₂ .n; t = c₂ .t; omega = c₂ .omega }) (sym m-same)
+    ∙ ap (λ (n : ℕ). record { m = c₁ .m; n = n; t = c₂ .t; omega = c₂ .omega }) (sym n-same)
+    ∙ ap (λ (t : ℕ). record { m = c₁ .m; n = c₁ .n; t = t; omega = c₂ .omega }) (sym t-same)
+
+-- the code with any other offset below 2^m is accepted too
 pub offset-accepted : {c : Parameters} {h : List ℕ} (ω : ℕ) → ω < 2 ^ c .m → Accepted c h → Accepted (withOffset c ω) h
 offset-accepted {c} {h} ω l A =
     let L = A .limits in

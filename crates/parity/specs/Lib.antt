@@ -5,5 +5,6 @@ pub mod ColumnLaws
 pub mod Parity
 pub mod Systematic
 pub mod Encoding
-pub mod Offset
+pub mod SameMatrix
+pub mod SameMatrixLaws
 pub mod Zero

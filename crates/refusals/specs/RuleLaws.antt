@@ -59,14 +59,14 @@ fault-rest ((zero unless t) ∷ rules) more s e = absurd s
 fault-rest ((suc n unless true) ∷ rules) more s e = fault-rest rules more s e
 fault-rest ((suc n unless false) ∷ rules) more s e = absurd (suc-ne-zero n e)
 
--- rules after two lists that give one number give one number
-pub fault-alike : (rules rules′ more : List Rule) → T (numbered rules) → T (numbered rules′) → fault rules ≡ fault rules′
-    → fault (rules ++ more) ≡ fault (rules′ ++ more)
-fault-alike rules rules′ more s s′ e = decided (ℕ-discrete (fault rules) 0)
+-- two lists with rules after them give the same number if they do so without, and, where that number is none, the rules after them do
+pub fault-alike : (rules rules′ more more′ : List Rule) → T (numbered rules) → T (numbered rules′) → fault rules ≡ fault rules′
+    → (fault rules ≡ 0 → fault more ≡ fault more′) → fault (rules ++ more) ≡ fault (rules′ ++ more′)
+fault-alike rules rules′ more more′ s s′ e f = decided (ℕ-discrete (fault rules) 0)
   where
-    decided : Dec (fault rules ≡ 0) → fault (rules ++ more) ≡ fault (rules′ ++ more)
-    decided (yes z) = fault-rest rules more s z ∙ sym (fault-rest rules′ more s′ (sym e ∙ z))
-    decided (no ne) = fault-first rules more ne ∙ e ∙ sym (fault-first rules′ more (λ z. ne (e ∙ z)))
+    decided : Dec (fault rules ≡ 0) → fault (rules ++ more) ≡ fault (rules′ ++ more′)
+    decided (yes z) = fault-rest rules more s z ∙ f z ∙ sym (fault-rest rules′ more′ s′ (sym e ∙ z))
+    decided (no ne) = fault-first rules more ne ∙ e ∙ sym (fault-first rules′ more′ (λ z. ne (e ∙ z)))
 
 pub numbered-both : (rules more : List Rule) → T (numbered rules) → T (numbered more) → T (numbered (rules ++ more))
 numbered-both [] more s s′ = s′
@@ -89,3 +89,13 @@ accept refused value e z = ap (λ (n : ℕ). unless-refused n refused value) (sy
 -- where no number is due there is the value
 pub given : {A : Type 0} {n : ℕ} (refused : ℕ → A) (value : A) → n ≡ 0 → unless-refused n refused value ≡ value
 given refused value z = sym (accept {k = 0} refused value (sym z) refl)
+
+-- two calls answer alike if they give the same number, and, where that is none, the same value
+pub answer-alike : {A : Type 0} {k n : ℕ} (refused : ℕ → A) (value value′ : A) → k ≡ n → (k ≡ 0 → value ≡ value′)
+    → unless-refused k refused value ≡ unless-refused n refused value′
+unfolding unless-refused
+answer-alike {k = k} refused value value′ e f = same k f ∙ ap (λ (n : ℕ). unless-refused n refused value′) e
+  where
+    same : (k : ℕ) → (k ≡ 0 → value ≡ value′) → unless-refused k refused value ≡ unless-refused k refused value′
+    same zero f = f refl
+    same (suc k) f = refl

@@ -106,12 +106,12 @@ pub fn check(params: &Params, roots_length: usize, support_length: usize) -> Res
     Ok((roots(params), support(params)))
 }
 
-/// Whether two accepted codes are the same: m, n, t and h agree. A fault in either brings its number, the lowest.
+/// Whether two accepted codes are the same: m, n, t, ω and h agree. A fault in either brings its number, the lowest.
 pub fn same(one: &Params, other: &Params) -> Result<bool, u32> {
     let faults = [judge(one, &[]), judge(other, &[])];
     match faults.iter().filter_map(|fault| fault.err()).min() {
         Some(number) => Err(number),
-        None => Ok(one.m == other.m && one.n == other.n && one.t == other.t && one.h == other.h),
+        None => Ok(one == other),
     }
 }
 
@@ -204,9 +204,10 @@ mod tests {
     }
 
     #[test]
-    fn codes_are_the_same_whatever_the_offset() {
+    fn codes_are_the_same_if_all_agrees() {
         let params = code_t();
-        assert_eq!(same(&params, &Params { omega: 3, ..params.clone() }), Ok(true));
+        assert_eq!(same(&params, &code_t()), Ok(true));
+        assert_eq!(same(&params, &Params { omega: 3, ..params.clone() }), Ok(false));
         assert_eq!(same(&params, &Params { t: 4, ..params.clone() }), Ok(false));
         assert_eq!(same(&params, &code_a()), Ok(false));
         assert_eq!(same(&Params { t: 3, ..params.clone() }, &Params { omega: 32, ..params.clone() }), Err(3));

@@ -1,11 +1,8 @@
 -- `same` meets its contract: the lower number of the two codes, or what the comparison gives.
 use mathlib.Core.Path.{sym, ap, ap₂, _∙_}
-use mathlib.Core.Bool.{Bool, _&&_}
-use lib.Dec.{eqb}
 use borrow.Author.Needs.{needs}
 use Rattle.refusals.specs.RuleLaws.{refuse, accept}
 use Rattle.codes.specs.declared.Sameness.the-variants.{Refused}
-use Rattle.codes.specs.Same.{sameCode}
 use Rattle.codes.specs.Answers.{lowest, compared, sameFault, sameAnswer}
 use Rattle.codes.proofs.same.Statement.{statement}
 use Rattle.codes.proofs.same.Tie as tie
@@ -26,30 +23,23 @@ returns c =
     let number = l .lower .ensures ∙ ap₂ lowest (l .before .before .code-fault .ensures) (l .before .code-fault2 .ensures) in
     refuse Refused _ number (c .if1 .taken)
 
-same-entries-requires : tie.Need-same-entries-requires
-same-entries-requires c κs = search needs
+agree-requires : tie.Need-agree-requires
+agree-requires c κs = search needs
 
 returns-2 : tie.Need-returns-2
-unfolding sameAnswer sameFault compared sameCode
+unfolding sameAnswer sameFault compared
 returns-2 c =
-    let l = c .before .before .before .before .before .before .before .before .before in
-    let a = l .before .before .before .before .before .args in
+    let l = c .before .before .before in
     let number = l .lower .ensures ∙ ap₂ lowest (l .before .before .code-fault .ensures) (l .before .code-fault2 .ensures) in
-    let numbers : Bool = eqb (a .c1 .m) (a .c2 .m) && eqb (a .c1 .n) (a .c2 .n) && eqb (a .c1 .t) (a .c2 .t) in
-    ap compared (sym (c .if2 .taken) ∙ ap (λ (b : Bool). numbers && b) (c .before .same-entries .ensures))
-    ∙ accept Refused _ number (c .before .before .before .before .before .before .before .before .if1 .left)
+    ap compared (sym (c .if2 .taken) ∙ c .before .agree .ensures) ∙ accept Refused _ number (c .before .before .if1 .left)
 
 returns-3 : tie.Need-returns-3
-unfolding sameAnswer sameFault compared sameCode
+unfolding sameAnswer sameFault compared
 returns-3 c =
-    let l = c .before .before .before .before .before .before .before .before .before in
-    let a = l .before .before .before .before .before .args in
+    let l = c .before .before .before in
     let number = l .lower .ensures ∙ ap₂ lowest (l .before .before .code-fault .ensures) (l .before .code-fault2 .ensures) in
-    let numbers : Bool = eqb (a .c1 .m) (a .c2 .m) && eqb (a .c1 .n) (a .c2 .n) && eqb (a .c1 .t) (a .c2 .t) in
-    ap compared (sym (c .if2 .left) ∙ ap (λ (b : Bool). numbers && b) (c .before .same-entries .ensures))
-    ∙ accept Refused _ number (c .before .before .before .before .before .before .before .before .if1 .left)
+    ap compared (sym (c .if2 .left) ∙ c .before .agree .ensures) ∙ accept Refused _ number (c .before .before .if1 .left)
 
 pub same-spec : {M : Type 1} → statement M
 same-spec =
-    tie.close
-    (tie.spec code-fault-requires code-fault-requires-2 lower-requires returns same-entries-requires returns-2 returns-3)
+    tie.close (tie.spec code-fault-requires code-fault-requires-2 lower-requires returns agree-requires returns-2 returns-3)

@@ -1,0 +1,182 @@
+-- When no call on words tells two codes apart, each at a setting.
+--
+-- The calls depend on the code and on the setting by the rules that are looked at before the call's own, by the number of roots, which is the length
+-- of a syndrome, and by the parity check matrix. Where these are the same, the calls answer alike.
+use mathlib.Core.Path.{_≡_, refl, ap, ap₂, _∙_}
+use mathlib.Core.Bool.{Bool, true, _&&_}
+use mathlib.Core.List.{List, [], _∷_, _++_}
+use Prim.Native.Nat.{ℕ}
+use lib.Dec.{eqb, leb}
+use lib.ListN.{length}
+use Rattle.refusals.specs.declared.Counted.the-variants.{Count, Refused as NotCounted}
+use Rattle.refusals.specs.declared.Outcome.the-variants.{Done, Refused}
+use Rattle.refusals.specs.Rules.{Rule, _unless_, fault, unless-refused}
+use Rattle.refusals.specs.RuleLaws.{fault-alike, answer-alike, first-holds}
+use Rattle.slices.specs.Bits.{allBits}
+use Rattle.params.specs.declared.Parameters.{Parameters}
+use Rattle.parity.specs.Columns.{rolesOf, dimension, messageOf, encodingOf}
+use Rattle.parity.specs.SameMatrix.{SameMatrix}
+use Rattle.parity.specs.SameMatrixLaws.{same-syndrome, same-roles, same-dimension, same-messages, same-encoding}
+use Rattle.parity.specs.Word.{syndromeOf}
+use Rattle.columns.specs.Fits.{Fits}
+use Rattle.columns.specs.Setting.{Setting, places, columnsOf, settingRules}
+use Rattle.columns.specs.SettingLaws.{setting-numbered, setting-accepted}
+use Rattle.messages.specs.MessageRules.{messageRules}
+use Rattle.words.specs.Answers.{bitRules, rolesFault, rolesAnswer, rolesAfter, syndromeFault, syndromeAnswer, syndromeAfter}
+use Rattle.words.specs.Answers.{encodeFault, encodeAnswer, encodeAfter, messageFault, messageAnswer, messageAfter}
+use Rattle.gears.specs.Rows.{isRow, rowBits, rowMessage, gearIn, lampIn, isRowMessage, rowOf}
+use Rattle.nearest.specs.SameRepair.{same-repairable, same-repaired}
+use Rattle.nearest.specs.Repair.{distance, repairedOf}
+use Rattle.repair.specs.declared.Recovery.the-variants.{Repaired, Refused as NotRepaired}
+use Rattle.repair.specs.Answers.{wordRules, turnedCount, repairFault, repairAnswer, repairAfter}
+use Rattle.rows.specs.declared.Reading.the-variants.{Read, Refused as NotRead}
+use Rattle.rows.specs.Answers.{writeRules, rowWord, carried, readRules, rowRead}
+use Rattle.rows.specs.Answers.{writeFault, writeAnswer, writeAfter, readFault, readAnswer, readAfter}
+use Rattle.demands.specs.Alike.{Alike}
+
+-- ---- the calls' own rules and values come from the matrix
+
+module _ {c₁ c₂ : Parameters} {h₁ cols₁ h₂ cols₂ : List ℕ} (M : SameMatrix c₁ h₁ cols₁ c₂ h₂ cols₂) where
+  message-rules : (long : ℕ) (bits : Bool) → messageRules (dimension c₁ h₁ cols₁) long bits ≡ messageRules (dimension c₂ h₂ cols₂) long bits
+  message-rules long bits = ap (λ (k : ℕ). messageRules k long bits) (same-dimension M)
+
+  word-rules : (received : List ℕ) → wordRules c₁ h₁ cols₁ received ≡ wordRules c₂ h₂ cols₂ received
+  unfolding wordRules
+  word-rules received = ap (λ (b : Bool). (8 unless allBits received) ∷ (10 unless b) ∷ []) (same-repairable M received)
+
+  turned-count : (received : List ℕ) → turnedCount c₁ h₁ cols₁ received ≡ turnedCount c₂ h₂ cols₂ received
+  unfolding turnedCount
+  turned-count received = ap₂ (λ (n : ℕ) (w : List ℕ). distance n received w) (M .columns) (same-repaired M received)
+
+  write-rules : (gear lamp : ℕ) → writeRules c₁ h₁ cols₁ gear lamp ≡ writeRules c₂ h₂ cols₂ gear lamp
+  unfolding writeRules
+  write-rules gear lamp = ap (λ (k : ℕ). (12 unless leb rowBits k) ∷ (11 unless isRow gear lamp) ∷ []) (same-dimension M)
+
+  row-word : (gear lamp : ℕ) → rowWord c₁ h₁ cols₁ gear lamp ≡ rowWord c₂ h₂ cols₂ gear lamp
+  unfolding rowWord
+  row-word gear lamp =
+      same-encoding M (rowMessage (dimension c₁ h₁ cols₁) gear lamp)
+      ∙ ap (λ (k : ℕ). encodingOf c₂ h₂ cols₂ (rowMessage k gear lamp)) (same-dimension M)
+
+  same-carried : (received : List ℕ) → carried c₁ h₁ cols₁ received ≡ carried c₂ h₂ cols₂ received
+  unfolding carried
+  same-carried received = same-messages M (repairedOf c₁ h₁ cols₁ received) ∙ ap (messageOf c₂ h₂ cols₂) (same-repaired M received)
+
+  read-rules : (received : List ℕ) → readRules c₁ h₁ cols₁ received ≡ readRules c₂ h₂ cols₂ received
+  unfolding readRules
+  read-rules received =
+      ap₂ (λ (k : ℕ) (rules : List Rule). (12 unless leb rowBits k) ∷ rules) (same-dimension M)
+      (ap₂ (λ (rules : List Rule) (b : Bool). rules ++ (11 unless b) ∷ []) (word-rules received) (ap isRowMessage (same-carried received)))
+
+  row-read : (received : List ℕ) → rowRead c₁ h₁ cols₁ received ≡ rowRead c₂ h₂ cols₂ received
+  unfolding rowRead
+  row-read received =
+      ap₂ (λ (l : List ℕ) (n : ℕ). Read (rowOf (gearIn l) (lampIn l)) n) (same-carried received) (turned-count received)
+
+-- ---- the calls
+
+-- what it takes: as many roots; the same number from the rules before the calls' own, `words` being the test of the words' lengths; and, where the
+-- setting fits the code, the same matrix
+pub record Matched (c₁ : Parameters) (h₁ : List ℕ) (s₁ : Setting) (c₂ : Parameters) (h₂ : List ℕ) (s₂ : Setting) : Type 0 where
+  pub rows : c₁ .t ≡ c₂ .t
+  pub due : (others : Bool) (words : ℕ → Bool)
+      → fault (settingRules c₁ h₁ s₁ others (words (places c₁ s₁))) ≡ fault (settingRules c₂ h₂ s₂ others (words (places c₂ s₂)))
+  pub matrix : Fits c₁ s₁ → SameMatrix c₁ h₁ (columnsOf c₁ s₁) c₂ h₂ (columnsOf c₂ s₂)
+
+-- what a call takes from a code and its columns
+abbrev Of : Type 0 → Type 0
+Of B = Parameters → List ℕ → List ℕ → B
+
+module _ {c₁ c₂ : Parameters} {h₁ h₂ : List ℕ} {s₁ s₂ : Setting} (P : Matched c₁ h₁ s₁ c₂ h₂ s₂) where
+  -- it is the same where the matrix is
+  abbrev FromMatrix : {B : Type 0} → Of B → Type 0
+  FromMatrix f = SameMatrix c₁ h₁ (columnsOf c₁ s₁) c₂ h₂ (columnsOf c₂ s₂) → f c₁ h₁ (columnsOf c₁ s₁) ≡ f c₂ h₂ (columnsOf c₂ s₂)
+
+  matrix : (others words : Bool) → fault (settingRules c₁ h₁ s₁ others words) ≡ 0 → SameMatrix c₁ h₁ (columnsOf c₁ s₁) c₂ h₂ (columnsOf c₂ s₂)
+  matrix others words none = P .matrix (setting-accepted c₁ h₁ s₁ others words none .3)
+
+  -- a call, by its own rules and its value
+  call : {B : Type 0} (others : Bool) (words : ℕ → Bool) (own : Of (List Rule)) (refused : ℕ → B) (value : Of B) → FromMatrix own → FromMatrix value
+      → unless-refused (fault (settingRules c₁ h₁ s₁ others (words (places c₁ s₁)) ++ own c₁ h₁ (columnsOf c₁ s₁))) refused
+      (value c₁ h₁ (columnsOf c₁ s₁))
+      ≡ unless-refused (fault (settingRules c₂ h₂ s₂ others (words (places c₂ s₂)) ++ own c₂ h₂ (columnsOf c₂ s₂))) refused
+      (value c₂ h₂ (columnsOf c₂ s₂))
+  call others words own refused value same-own same-value =
+      let tested₁ : Bool = words (places c₁ s₁) in
+      let tested₂ : Bool = words (places c₂ s₂) in
+      let rules₁ : List Rule = settingRules c₁ h₁ s₁ others tested₁ in
+      let rules₂ : List Rule = settingRules c₂ h₂ s₂ others tested₂ in
+      let own₁ : List Rule = own c₁ h₁ (columnsOf c₁ s₁) in
+      let own₂ : List Rule = own c₂ h₂ (columnsOf c₂ s₂) in
+      answer-alike refused (value c₁ h₁ (columnsOf c₁ s₁)) (value c₂ h₂ (columnsOf c₂ s₂))
+      (fault-alike rules₁ rules₂ own₁ own₂ (setting-numbered c₁ h₁ s₁ others tested₁) (setting-numbered c₂ h₂ s₂ others tested₂)
+      (P .due others words) (λ none. ap fault (same-own (matrix others tested₁ none))))
+      (λ none. same-value (matrix others tested₁ (first-holds rules₁ own₁ none)))
+
+  -- roles have no rules of their own
+  roles-call : {B : Type 0} (out : List ℕ) (refused : ℕ → B) (value : Of B) → FromMatrix value
+      → unless-refused (rolesFault c₁ h₁ s₁ out) refused (value c₁ h₁ (columnsOf c₁ s₁))
+      ≡ unless-refused (rolesFault c₂ h₂ s₂ out) refused (value c₂ h₂ (columnsOf c₂ s₂))
+  unfolding rolesFault
+  roles-call out refused value same-value =
+      answer-alike refused (value c₁ h₁ (columnsOf c₁ s₁)) (value c₂ h₂ (columnsOf c₂ s₂)) (P .due true (eqb (length out)))
+      (λ none. same-value (matrix true (eqb (length out) (places c₁ s₁)) none))
+
+  -- the syndrome's buffer of t is tested with the code
+  syndrome-call : {B : Type 0} (word out : List ℕ) (refused : ℕ → B) (value : Of B) → FromMatrix value
+      → unless-refused (syndromeFault c₁ h₁ s₁ word out) refused (value c₁ h₁ (columnsOf c₁ s₁))
+      ≡ unless-refused (syndromeFault c₂ h₂ s₂ word out) refused (value c₂ h₂ (columnsOf c₂ s₂))
+  unfolding syndromeFault
+  syndrome-call word out refused value same-value =
+      ap (λ (t : ℕ).
+      unless-refused (fault (settingRules c₁ h₁ s₁ (eqb (length out) t) (eqb (length word) (places c₁ s₁)) ++ bitRules word)) refused
+      (value c₁ h₁ (columnsOf c₁ s₁))) (P .rows)
+      ∙ call (eqb (length out) (c₂ .t)) (eqb (length word)) (λ c h cols. bitRules word) refused value (λ M. refl) same-value
+
+  pub answered-alike : Alike c₁ h₁ s₁ c₂ h₂ s₂
+  unfolding rolesAnswer rolesAfter syndromeAnswer syndromeAfter encodeFault encodeAnswer encodeAfter messageFault messageAnswer messageAfter
+      repairFault repairAnswer repairAfter writeFault writeAnswer writeAfter readFault readAnswer readAfter
+  answered-alike =
+      record {
+        roles = λ out. (
+          roles-call out NotCounted (λ c h cols. Count (dimension c h cols)) (λ M. ap Count (same-dimension M)),
+          roles-call out (λ k. out) rolesOf same-roles,
+        );
+        syndrome = λ word out. (
+          syndrome-call word out Refused (λ c h cols. Done) (λ M. refl),
+          syndrome-call word out (λ k. out) (λ c h cols. syndromeOf c h cols word) (λ M. same-syndrome M word),
+        );
+        encode = λ message word.
+            let own : Of (List Rule) = λ c h cols. messageRules (dimension c h cols) (length message) (allBits message) in
+            let same-own : FromMatrix own = λ M. message-rules M (length message) (allBits message) in (
+              call true (eqb (length word)) own Refused (λ c h cols. Done) same-own (λ M. refl),
+              call true (eqb (length word)) own (λ k. word) (λ c h cols. encodingOf c h cols message) same-own (λ M. same-encoding M message),
+            );
+        message = λ word out.
+            let own : Of (List Rule) = λ c h cols. messageRules (dimension c h cols) (length out) (allBits word) in
+            let same-own : FromMatrix own = λ M. message-rules M (length out) (allBits word) in (
+              call true (eqb (length word)) own Refused (λ c h cols. Done) same-own (λ M. refl),
+              call true (eqb (length word)) own (λ k. out) (λ c h cols. messageOf c h cols word) same-own (λ M. same-messages M word),
+            );
+        repair = λ received repaired.
+            let words : ℕ → Bool = λ n. eqb (length received) n && eqb (length repaired) n in
+            let own : Of (List Rule) = λ c h cols. wordRules c h cols received in
+            let same-own : FromMatrix own = λ M. word-rules M received in (
+              call true words own NotRepaired (λ c h cols. Repaired (turnedCount c h cols received)) same-own
+                  (λ M. ap Repaired (turned-count M received)),
+              call true words own (λ k. repaired) (λ c h cols. repairedOf c h cols received) same-own (λ M. same-repaired M received),
+            );
+        write-row = λ gear lamp word.
+            let own : Of (List Rule) = λ c h cols. writeRules c h cols gear lamp in
+            let same-own : FromMatrix own = λ M. write-rules M gear lamp in (
+              call true (eqb (length word)) own Refused (λ c h cols. Done) same-own (λ M. refl),
+              call true (eqb (length word)) own (λ k. word) (λ c h cols. rowWord c h cols gear lamp) same-own (λ M. row-word M gear lamp),
+            );
+        read-row = λ received repaired.
+            let words : ℕ → Bool = λ n. eqb (length received) n && eqb (length repaired) n in
+            let own : Of (List Rule) = λ c h cols. readRules c h cols received in
+            let same-own : FromMatrix own = λ M. read-rules M received in (
+              call true words own NotRead (λ c h cols. rowRead c h cols received) same-own (λ M. row-read M received),
+              call true words own (λ k. repaired) (λ c h cols. repairedOf c h cols received) same-own (λ M. same-repaired M received),
+            );
+      }
