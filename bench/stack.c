@@ -24,12 +24,19 @@ static int selected_k;
 static uint8_t selected_received[LENGTH];
 #define SELECTION M, N, T, 0, h, N, blocks, CHOSEN, shifts, CHOSEN
 
+/* Brackets as deep as they nest, with a sum and a product under way around each; every operation in the innermost. */
+#define OPEN "A+B*("
+static const char formula[] = OPEN OPEN OPEN OPEN OPEN OPEN OPEN OPEN "A+B*C/D'))))))))";
+
 static int32_t field_sum(void) { return zov_field_sum(M, 3, 5); }
 static int32_t field_product(void) { return zov_field_product(M, 3, 5); }
 static int32_t field_inverse(void) { return zov_field_inverse(M, 3); }
 static int32_t block_sum(void) { return zov_block_sum(M, h, N, h, N, block, N); }
 static int32_t block_product(void) { return zov_block_product(M, h, N, h, N, block, N); }
 static int32_t block_inverse(void) { return zov_block_inverse(M, h, N, block, N); }
+static int32_t block_formula(void) {
+    return zov_formula(M, (const uint8_t *)formula, strlen(formula), h, N, h, N, h, N, h, N, block, N);
+}
 static int32_t check(void) { return zov_check(M, N, T, 0, h, N, roots, N, support, N); }
 static int32_t same(void) { return zov_same(M, N, T, 0, h, N, M, N, T, 0, h, N); }
 static int32_t code_roles(void) { return zov_roles(M, N, T, 0, h, N, roles, N); }
@@ -62,6 +69,7 @@ static const struct call {
 } CALLS[] = {
     {"zov_field_sum", field_sum},     {"zov_field_product", field_product}, {"zov_field_inverse", field_inverse},
     {"zov_block_sum", block_sum},     {"zov_block_product", block_product}, {"zov_block_inverse", block_inverse},
+    {"zov_formula", block_formula},
     {"zov_check", check},             {"zov_same", same},                   {"zov_roles", code_roles},
     {"zov_syndrome", word_syndrome},  {"zov_encode", encode},               {"zov_message", word_message},
     {"zov_repair", repair},           {"zov_write_row", write_row},         {"zov_read_row", read_row},

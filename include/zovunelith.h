@@ -35,6 +35,21 @@ int32_t zov_block_product(uint32_t m, const zov_elem *a, size_t a_length, const 
                           zov_elem *out, size_t out_length);
 int32_t zov_block_inverse(uint32_t m, const zov_elem *a, size_t a_length, zov_elem *out, size_t out_length);
 
+/* The block that a formula such as A+B*C' stands for, into `out`, which has s elements as above. The letters A to D are
+ * the blocks a to d, of s elements each; one of length 0 is not lent. The pointer with a length of 0 may be null. The
+ * value is 0.
+ *
+ *     formula: a product, or a formula + a product
+ *     product: a term, or a product * a term, or a product / a term (X/Y is X times the inverse of Y)
+ *     term: a letter, or a formula in round brackets, or a term with ' after it (its inverse)
+ *
+ * A text has 1 to 128 bytes and no blanks, and its brackets nest at most eight deep. Refused by 1, 2 (lengths of `out`
+ * and of the lent blocks), 3 (in a lent block, named in the text or not), 16 (a text outside these rules, or a letter
+ * with no block lent), then 9 (an inverse that the text asks for does not exist). */
+int32_t zov_formula(uint32_t m, const uint8_t *text, size_t text_length, const zov_elem *a, size_t a_length,
+                    const zov_elem *b, size_t b_length, const zov_elem *c, size_t c_length,
+                    const zov_elem *d, size_t d_length, zov_elem *out, size_t out_length);
+
 /* A code's parameters: width m, length n, t roots, offset omega, signature h of n elements. Refused by 1 to 7.
  * zov_check writes n roots and n support elements; the value is 0. */
 int32_t zov_check(uint32_t m, uint32_t n, uint32_t t, uint32_t omega, const zov_elem *h, size_t h_length,

@@ -16,13 +16,14 @@ use zovunelith::{block, field, sheet, Code, Lamp, Row, Selection};
 /// m, n and t.
 const SHAPES: [(u32, u32, u32); 4] = [(5, 16, 2), (8, 64, 4), (8, 128, 8), (8, 128, 64)];
 
-const CALLS: [&str; 23] = [
+const CALLS: [&str; 24] = [
     "field sum",
     "field product",
     "field inverse",
     "block sum",
     "block product",
     "block inverse",
+    "formula",
     "check",
     "same",
     "roles",
@@ -43,6 +44,9 @@ const CALLS: [&str; 23] = [
 ];
 
 const FIRST_DARK: Row = Row { gear: 1, lamp: Lamp::Dark };
+
+/// Has every operation, with the signature for each of the letters.
+const FORMULA: &[u8] = b"(A+B*C')/D";
 
 /// Numbers that look random, the same in each run.
 struct Random(u64);
@@ -260,6 +264,7 @@ impl Inputs {
             "block product" => Box::new(move || block::product(m, &self.h, &self.h, &mut out).expect("blocks")),
             // The matrix of an accepted signature is a Cauchy matrix, which has an inverse.
             "block inverse" => Box::new(move || block::inverse(m, &self.h, &mut out).expect("an inverse")),
+            "formula" => Box::new(move || block::formula(m, FORMULA, [&self.h; 4], &mut out).expect("inverses")),
             "check" => Box::new(move || code.check(&mut out, &mut second).expect("accepted")),
             "same" => Box::new(move || keep(code.same(&code).expect("accepted"))),
             "sheet" => {
@@ -289,6 +294,9 @@ impl Inputs {
             }),
             "block product" => Box::new(move || rival::block_product(&self.field, &self.h, &self.h, &mut out)),
             "block inverse" => Box::new(move || keep(rival::block_inverse(&self.field, &self.h, &mut out))),
+            "formula" => Box::new(move || {
+                rival::formula(&self.field, FORMULA, [&self.h; 4], &mut out).expect("inverses");
+            }),
             "check" => Box::new(move || keep(code.check().expect("accepted"))),
             "same" => Box::new(move || {
                 black_box((code.check(), code.check()));

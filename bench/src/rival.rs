@@ -1,5 +1,5 @@
-//! An unproved implementation for comparison: products by tables of logarithms, rows of the parity check matrix in one
-//! u128 each, and the same pass for repair. It makes the same tests as the product's calls.
+//! An unproved implementation for comparison: products by tables of logarithms, formulas by recursive descent, rows of
+//! the parity check matrix in one u128 each, and the same pass for repair. It makes the same tests as the product's calls.
 
 /// The field of 2^m elements by its logarithms.
 pub struct Field {
@@ -81,6 +81,113 @@ pub fn block_inverse(field: &Field, a: &[u8], out: &mut [u8]) -> bool {
         *entry = field.product(old, scale);
     }
     true
+}
+
+/// The longest block.
+const LONGEST: usize = 128;
+
+/// The longest text of a formula.
+const LONGEST_TEXT: usize = 128;
+
+/// How deep its brackets may nest.
+const DEEPEST: usize = 8;
+
+/// The value of a formula; none where the product's call is refused.
+pub fn formula(field: &Field, text: &[u8], blocks: [&[u8]; 4], out: &mut [u8]) -> Option<()> {
+    let length = out.len();
+    let is_block = |block: &[u8]| block.len() == length && block.iter().all(|&entry| u32::from(entry) >> field.m == 0);
+    if !length.is_power_of_two() || length > LONGEST || !blocks.iter().all(|block| block.is_empty() || is_block(block))
+    {
+        return None;
+    }
+    if text.len() > LONGEST_TEXT {
+        return None;
+    }
+    let mut formula = Formula { field, blocks, length, rest: text, open: 0, dead: false };
+    let value = formula.sum()?;
+    if !formula.rest.is_empty() || formula.dead {
+        return None;
+    }
+    out.copy_from_slice(&value[..length]);
+    Some(())
+}
+
+/// A formula that is worked out while it is read. A value is a block at the front of an array.
+struct Formula<'a> {
+    field: &'a Field,
+    blocks: [&'a [u8]; 4],
+    length: usize,
+    /// What is left of the text.
+    rest: &'a [u8],
+    /// The number of open brackets.
+    open: usize,
+    /// Whether an inverse did not exist. The text is read to its end all the same.
+    dead: bool,
+}
+
+impl Formula<'_> {
+    /// Whether the text goes on with this byte, which is then behind.
+    fn take(&mut self, byte: u8) -> bool {
+        let taken = self.rest.first() == Some(&byte);
+        self.rest = &self.rest[usize::from(taken)..];
+        taken
+    }
+
+    fn sum(&mut self) -> Option<[u8; LONGEST]> {
+        let mut sum = self.product()?;
+        while self.take(b'+') {
+            let added = self.product()?;
+            sum.iter_mut().zip(added).for_each(|(entry, added)| *entry ^= added);
+        }
+        Some(sum)
+    }
+
+    fn product(&mut self) -> Option<[u8; LONGEST]> {
+        let mut product = self.term()?;
+        loop {
+            let factor = if self.take(b'*') {
+                self.term()?
+            } else if self.take(b'/') {
+                let divisor = self.term()?;
+                self.inverse(divisor)
+            } else {
+                return Some(product);
+            };
+            let (left, s) = (product, self.length);
+            block_product(self.field, &left[..s], &factor[..s], &mut product[..s]);
+        }
+    }
+
+    fn term(&mut self) -> Option<[u8; LONGEST]> {
+        let mut term = [0; LONGEST];
+        if self.take(b'(') {
+            self.open += 1;
+            if self.open > DEEPEST {
+                return None;
+            }
+            term = self.sum()?;
+            if !self.take(b')') {
+                return None;
+            }
+            self.open -= 1;
+        } else {
+            let letter = (0..4).find(|&letter| self.take(b"ABCD"[letter]))?;
+            if self.blocks[letter].is_empty() {
+                return None;
+            }
+            term[..self.length].copy_from_slice(self.blocks[letter]);
+        }
+        while self.take(b'\'') {
+            term = self.inverse(term);
+        }
+        Some(term)
+    }
+
+    fn inverse(&mut self, value: [u8; LONGEST]) -> [u8; LONGEST] {
+        let mut inverse = [0; LONGEST];
+        self.dead |= !block_inverse(self.field, &value[..self.length], &mut inverse[..self.length]);
+        inverse
+    }
 }
 
 /// A code that is checked anew by each call, as the product's calls do.

@@ -28,6 +28,21 @@ extern "C" {
         out_length: usize,
     ) -> i32;
     pub fn zov_block_inverse(m: u32, a: *const Elem, a_length: usize, out: *mut Elem, out_length: usize) -> i32;
+    pub fn zov_formula(
+        m: u32,
+        text: *const u8,
+        text_length: usize,
+        a: *const Elem,
+        a_length: usize,
+        b: *const Elem,
+        b_length: usize,
+        c: *const Elem,
+        c_length: usize,
+        d: *const Elem,
+        d_length: usize,
+        out: *mut Elem,
+        out_length: usize,
+    ) -> i32;
     pub fn zov_check(
         m: u32,
         n: u32,

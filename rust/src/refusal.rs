@@ -36,10 +36,12 @@ pub enum Refusal {
     NoSuchBlock = 14,
     /// 15: a shift of a selection is t or more.
     Shift = 15,
+    /// 16: a text outside the rules of block formulas, or a letter in it with no block lent.
+    Formula = 16,
 }
 
 /// Every refusal, with its word on the bench and its meaning.
-const TABLE: [(Refusal, &str, &str); 15] = [
+const TABLE: [(Refusal, &str, &str); 16] = [
     (Refusal::Width, "width", "m outside 2 to 8"),
     (Refusal::Length, "length", "n, a block or a lent buffer has another length than is asked for"),
     (Refusal::Stranger, "stranger", "an element or offset of 2^m or more"),
@@ -55,6 +57,7 @@ const TABLE: [(Refusal, &str, &str); 15] = [
     (Refusal::Sheet, "sheet", "text that is no sheet"),
     (Refusal::NoSuchBlock, "no such block", "a block number of n/t or more, or one named twice"),
     (Refusal::Shift, "shift", "a shift of t or more"),
+    (Refusal::Formula, "formula", "text outside the rules of formulas, or a letter with no block lent"),
 ];
 
 impl Refusal {
@@ -63,7 +66,7 @@ impl Refusal {
         TABLE[number as usize - 1].0
     }
 
-    /// Its number, from 1 to 15.
+    /// Its number, from 1 to 16.
     pub fn number(self) -> u32 {
         self as u32
     }

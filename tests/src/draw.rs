@@ -1,4 +1,4 @@
-//! Random codes and selections: accepted ones of every shape, and codes with chosen faults.
+//! Random blocks, codes and selections: accepted ones of every shape, and codes with chosen faults.
 
 use crate::random::Random;
 use crate::reference::columns::{block_count, Selection};
@@ -26,6 +26,30 @@ pub fn element(random: &mut Random, m: u32) -> Elem {
 /// An element other than zero.
 pub fn nonzero(random: &mut Random, m: u32) -> Elem {
     1 + random.below(field::size(m) as usize - 1) as Elem
+}
+
+/// A block.
+pub fn block(random: &mut Random, m: u32, s: usize) -> Vec<Elem> {
+    (0..s).map(|_| element(random, m)).collect()
+}
+
+/// A block whose elements have this sum.
+fn block_of_sum(random: &mut Random, m: u32, s: usize, sum: Elem) -> Vec<Elem> {
+    let mut block = block(random, m, s);
+    let total = block.iter().fold(sum, |sum, entry| sum ^ entry);
+    block[random.below(s)] ^= total;
+    block
+}
+
+/// A block whose elements sum to zero, so that it has no inverse.
+pub fn dead_block(random: &mut Random, m: u32, s: usize) -> Vec<Elem> {
+    block_of_sum(random, m, s, 0)
+}
+
+/// A block that has an inverse.
+pub fn live_block(random: &mut Random, m: u32, s: usize) -> Vec<Elem> {
+    let sum = nonzero(random, m);
+    block_of_sum(random, m, s, sum)
 }
 
 /// The signature whose 1/h_i is `first` plus those of `steps` that the bits of i choose. It keeps the rule for 1/h
@@ -185,6 +209,9 @@ pub fn one_or_two<Fault: Copy>(faults: &[Fault]) -> Vec<Vec<Fault>> {
 
 /// Widths outside the table, among them ones that a cut to fewer bits would bring back in.
 pub const BAD_WIDTHS: [u32; 13] = [0, 1, 9, 10, 16, 31, 32, 33, 64 + 5, 256 + 5, 65536 + 5, 1 << 31, u32::MAX];
+
+/// Lengths that no block has.
+pub const BAD_BLOCK_LENGTHS: [usize; 12] = [0, 3, 5, 6, 7, 12, 24, 96, 127, 129, 192, 256];
 
 /// Numbers n that no code has, among them ones that a cut to fewer bits would bring back in.
 pub const BAD_LENGTHS: [u32; 11] = [0, 1, 3, 6, 24, 127, 129, 256, 256 + 16, 65536 + 4, u32::MAX];

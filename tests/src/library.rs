@@ -33,7 +33,7 @@ pub mod field {
     }
 }
 
-/// Sum, product and inverse of dyadic blocks.
+/// Sum, product and inverse of dyadic blocks, and formulas of them.
 pub mod block {
     use super::numbered;
     use zovunelith::{block, Elem};
@@ -48,6 +48,10 @@ pub mod block {
 
     pub fn inverse(m: u32, a: &[Elem], out: &mut [Elem]) -> Result<(), u32> {
         numbered(block::inverse(m, a, out))
+    }
+
+    pub fn formula(m: u32, text: &[u8], blocks: [&[Elem]; 4], out: &mut [Elem]) -> Result<(), u32> {
+        numbered(block::formula(m, text, blocks, out))
     }
 }
 

@@ -1,14 +1,11 @@
 //! Sum, product and inverse of dyadic blocks, against the full matrices.
 
 use zovunelith_tests::canary::Lent;
-use zovunelith_tests::draw::{element, BAD_WIDTHS};
+use zovunelith_tests::draw::{block, dead_block, live_block, BAD_BLOCK_LENGTHS, BAD_WIDTHS};
 use zovunelith_tests::library::block as library;
 use zovunelith_tests::random::Random;
 use zovunelith_tests::reference::{block as reference, field};
 use zovunelith_tests::Elem;
-
-/// Lengths that no block has.
-const BAD_LENGTHS: [usize; 12] = [0, 3, 5, 6, 7, 12, 24, 96, 127, 129, 192, 256];
 
 #[derive(Clone, Copy, Debug)]
 enum Call {
@@ -39,18 +36,6 @@ fn compare(call: Call, m: u32, a: &[Elem], b: &[Elem], result_length: usize) -> 
     b.assert_unchanged();
     result.assert_holds(expected.as_deref().ok());
     expected
-}
-
-fn block(random: &mut Random, m: u32, s: usize) -> Vec<Elem> {
-    (0..s).map(|_| element(random, m)).collect()
-}
-
-/// A block whose elements sum to zero.
-fn dead_block(random: &mut Random, m: u32, s: usize) -> Vec<Elem> {
-    let mut block = block(random, m, s);
-    let total = block.iter().fold(0, |sum, entry| sum ^ entry);
-    block[random.below(s)] ^= total;
-    block
 }
 
 /// How often to try blocks of a length: the full matrices take their time.
@@ -140,7 +125,7 @@ fn all_small_blocks() {
 fn lengths_that_no_block_has() {
     let mut random = Random::new(204);
     for (m, _) in field::WORDS {
-        for s in BAD_LENGTHS {
+        for s in BAD_BLOCK_LENGTHS {
             let (a, b) = (block(&mut random, m, s), block(&mut random, m, s));
             for call in [Call::Sum, Call::Product, Call::Inverse] {
                 assert_eq!(compare(call, m, &a, &b, s), Err(2), "{call:?}, width {m}, length {s}");
@@ -209,10 +194,7 @@ fn faults_together() {
                 if stranger && m >= Elem::BITS {
                     continue;
                 }
-                let mut a = if dead { dead_block(&mut random, m, s) } else { block(&mut random, m, s) };
-                if !dead && a.iter().fold(0, |sum, entry| sum ^ entry) == 0 {
-                    a[0] ^= 1;
-                }
+                let mut a = if dead { dead_block(&mut random, m, s) } else { live_block(&mut random, m, s) };
                 if stranger {
                     a[random.below(s)] = Elem::MAX;
                 }

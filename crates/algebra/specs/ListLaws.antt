@@ -1,13 +1,15 @@
--- Laws of lists: that the test of equal lists is equality, and the length of a list with a first part.
-use mathlib.Core.Path.{_≡_, ap}
+-- Laws of lists: that the test of equal lists is equality, the length of a list with a first part, and what stands at a place.
+use mathlib.Core.Path.{_≡_, sym, ap, _∙_}
 use mathlib.Core.Logic.{_↔_}
 use mathlib.Core.Bool.{true}
-use mathlib.Core.List.{List, _++_}
-use Prim.Native.Nat.{ℕ, _≤_}
+use mathlib.Core.List.{List, _∷_, _++_}
+use Prim.Native.Nat.{ℕ, _+_, _<_, _≤_}
+use native.Mathlib.Decide.{decLt}
+use native.Mathlib.Numerals.{add-one}
 use native.Mathlib.Omega.{arith}
 use lib.Dec.{eqb}
-use lib.ListN.{length, length-append}
-use lib.Seq.{ext-getD}
+use lib.ListN.{length, getD, drop, length-append, List·getD-eq-default}
+use lib.Seq.{drop-cons, ext-getD}
 use borrow.Author.Tests.{eqb-true, eq-eqb}
 use Rattle.algebra.specs.All.{all}
 use Rattle.algebra.specs.AllLaws.{all-is, all-true}
@@ -29,3 +31,21 @@ sameList-is a b = (
 -- a list is as long as its first part at least
 pub front-long : {n : ℕ} (l rest : List ℕ) → length l ≡ n → n ≤ length (l ++ rest)
 front-long l rest e = omega (arith, length-append l rest)
+
+-- ---- a list from a place on
+
+module _ (l : List ℕ) (i : ℕ) where
+  pub here : i < length l → drop i l ≡ getD l i 0 ∷ drop (i + 1) l
+  here less = drop-cons l i 0 less ∙ ap (λ (j : ℕ). getD l i 0 ∷ drop j l) (sym (add-one i))
+
+  -- an entry that is not 0 is one of the list's
+  pub inside : {n : ℕ} → getD l i 0 ≡ n → 0 < n → i < length l
+  inside {n} e pos = decided (decLt i (length l))
+    where
+      decided : Dec (i < length l) → i < length l
+      decided (yes less) = less
+      decided (no nl) =
+          let past : getD l i 0 ≡ 0 = List·getD-eq-default l 0 (omega arith) in absurd (omega arith)
+
+  pub here-is : {n : ℕ} → getD l i 0 ≡ n → 0 < n → drop i l ≡ n ∷ drop (i + 1) l
+  here-is e pos = here (inside e pos) ∙ ap (λ (n : ℕ). n ∷ drop (i + 1) l) e

@@ -1,6 +1,5 @@
 -- What the calls on blocks answer, and what they leave in the lent buffer, for every input. Where a rule does not hold that is the number of the
 -- first such rule, and the buffer as it was.
-use mathlib.Core.Bool.{not}
 use mathlib.Core.List.{List, [], _∷_, _++_}
 use Prim.Native.Nat.{ℕ}
 use lib.Dec.{eqb}
@@ -12,7 +11,8 @@ use Rattle.field.specs.Gf.{gf}
 use Rattle.field.specs.Range.{isWidth}
 use Rattle.slices.specs.Lengths.{isPower}
 use Rattle.slices.specs.Elements.{allElements}
-use Rattle.dyadic.specs.Block.{blockSum, blockProduct, total, blockInverse}
+use Rattle.dyadic.specs.Block.{blockSum, blockProduct, blockInverse}
+use Rattle.dyadic.specs.Invertible.{isInvertible}
 
 -- s is the length of a block and n that of the buffer for the result: 1, 01's "width", then 2, 01's "length"
 unfoldable pub sizeRules : ℕ → ℕ → ℕ → List Rule
@@ -28,7 +28,7 @@ pairRules m a b n =
 
 -- 9, 01's "dead block": the elements sum to zero
 unfoldable pub inverseRules : ℕ → List ℕ → ℕ → List Rule
-inverseRules m a n = blockRules m a n ++ (9 unless not (eqb (total (gf m) a) 0)) ∷ []
+inverseRules m a n = blockRules m a n ++ (9 unless isInvertible m a) ∷ []
 
 unfoldable pub sizeFault : ℕ → ℕ → ℕ → ℕ
 sizeFault m s n = fault (sizeRules m s n)

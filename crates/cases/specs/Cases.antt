@@ -24,6 +24,7 @@ use Rattle.slices.specs.Elements.{allElements}
 use Rattle.slices.specs.Lengths.{isPower}
 use Rattle.blocks.specs.Answers.{sizeRules, blockRules, pairRules as blockPairRules, inverseRules, pairFault as blockPairFault, inverseFault as blockInverseFault, productAnswer as blockProductAnswer, productAfter as blockProductAfter, inverseAnswer as blockInverseAnswer, inverseAfter as blockInverseAfter}
 use Rattle.dyadic.specs.Block.{blockProduct, total, quotient, blockInverse}
+use Rattle.dyadic.specs.Invertible.{isInvertible}
 use Rattle.params.specs.declared.Parameters.{Parameters}
 use Rattle.params.specs.Code.{codeFault, isLength, isRootCount, shapeRules, codeRules}
 use Rattle.codes.specs.Answers.{checkFault, checkAnswer, supportAfter}
@@ -140,7 +141,7 @@ agreeing (c ∷ cs) e =
     let (here, rest) = both-true (sameList (c .given) (c .said)) (agree cs) e in (sameList-is (c .given) (c .said) .0 here, agreeing cs rest)
 
 table-agrees : agree table ≡ true
-unfolding agree table is element outcome recovery marked card blockProductOf blockInverseOf signatureOf signatureA encodingA repairA elementRules pairFault productAnswer inverseFault inverseAnswer polyProduct cutBack remainder product squares inverse fault unless-refused isWidth isElement words word allElements isPower sizeRules blockRules blockPairRules inverseRules blockPairFault blockInverseFault blockProductAnswer blockProductAfter blockInverseAnswer blockInverseAfter blockProduct total quotient blockInverse codeFault checkFault checkAnswer supportAfter isLength isRootCount shapeRules signatureRules codeRules rootAt supportAt inverseAt nonzero noZero pairKept affine linear distinct messageRules encodeFault encodeAnswer encodeAfter count chosen wordOf found sameList sameEntry isSumOf isSum isMessageColumn dimension messageOf encodingOf whole columnsOf settingRules allBits parityAt held syndromeAt isCodeWord wordRules turnedCount repairFault repairAnswer repairAfter distance isNear isRepairable differs repairedOf all some bitAt sum tabulate _⊕_
+unfolding agree table is element outcome recovery marked card blockProductOf blockInverseOf signatureOf signatureA encodingA repairA elementRules pairFault productAnswer inverseFault inverseAnswer polyProduct cutBack remainder product squares inverse fault unless-refused isWidth isElement words word allElements isPower sizeRules blockRules blockPairRules inverseRules blockPairFault blockInverseFault blockProductAnswer blockProductAfter blockInverseAnswer blockInverseAfter blockProduct total quotient blockInverse isInvertible codeFault checkFault checkAnswer supportAfter isLength isRootCount shapeRules signatureRules codeRules rootAt supportAt inverseAt nonzero noZero pairKept affine linear distinct messageRules encodeFault encodeAnswer encodeAfter count chosen wordOf found sameList sameEntry isSumOf isSum isMessageColumn dimension messageOf encodingOf whole columnsOf settingRules allBits parityAt held syndromeAt isCodeWord wordRules turnedCount repairFault repairAnswer repairAfter distance isNear isRepairable differs repairedOf all some bitAt sum tabulate _⊕_
 table-agrees = refl
 
 pub table-holds : Hold table

@@ -3,9 +3,9 @@
 --
 -- That every call ends is part of its proof. Of each call there is said here that a refusal leaves each buffer as it was (`..-unchanged`); and that
 -- it gives its value exactly if all its rules hold, is refused otherwise, and by the lowest number that applies (`..-refuses`). The rules of calls on
--- words and on sheets come in parts, since there are exceptions from the lowest number: the 2, 14 and 15 of a selection come after 7; 12 comes after
--- these and before all others (`write-row`, `read-row`); the 2 of a message's length comes after 7, 14 and 15 and before 8 (`encode`, `message`);
--- and 13 comes first, and the 2 of a short buffer last, for a sheet (`listing`).
+-- words, on sheets and on formulas come in parts, since there are exceptions from the lowest number: the 2, 14 and 15 of a selection come after 7; 12
+-- comes after these and before all others (`write-row`, `read-row`); the 2 of a message's length comes after 7, 14 and 15 and before 8 (`encode`,
+-- `message`); 16 comes before 9 (`formula`); and 13 comes first, and the 2 of a short buffer last, for a sheet (`listing`).
 use mathlib.Core.Path.{_≡_, refl, sym, ap₂, subst}
 use mathlib.Core.Logic.{_≢_, _↔_, _⊎_, inl, inr}
 use mathlib.Core.Bool.{Bool, true, not, _&&_}
@@ -30,6 +30,9 @@ use Rattle.slices.specs.Bits.{allBits}
 use Rattle.blocks.specs.Answers.{sizeRules, blockRules, pairRules, inverseRules, pairFault as blockPairFault, inverseFault as blockInverseFault}
 use Rattle.blocks.specs.Answers.{sumAnswer as blockSumAnswer, sumAfter, productAnswer as blockProductAnswer, productAfter}
 use Rattle.blocks.specs.Answers.{inverseAnswer as blockInverseAnswer, inverseAfter}
+use Rattle.formula.specs.Letters.{Lent}
+use Rattle.formula.specs.Reading.{TextReading}
+use Rattle.formula.specs.Answers.{isRead, readingExists, lentRules, readingRules, formulaRules, formulaFault, formulaAnswer, formulaAfter}
 use Rattle.params.specs.declared.Parameters.{Parameters}
 use Rattle.params.specs.Code.{shapeRules, codeRules, codeFault}
 use Rattle.signature.specs.Tests.{signatureRules}
@@ -137,6 +140,21 @@ module _ (m : ℕ) (a out : List ℕ) where
   pub block-inverse-refuses : Refuses (blockInverseAnswer m a out) Refused Done (inverseRules m a (length out))
   unfolding blockInverseAnswer blockInverseFault inverseRules blockRules sizeRules
   block-inverse-refuses = refuses Refused Done done-apart same-outcome (inverseRules m a (length out)) refl
+
+-- ---- formulas: 16 "is looked for after 1, 2 and 3, and 9 after it"
+
+-- at whatever the text reads as
+module _ (m : ℕ) (β : Lent) (reading : TextReading) (out : List ℕ) where
+  pub formula-unchanged : {k : ℕ} → formulaAnswer m β reading out ≡ Refused k → formulaAfter m β reading out ≡ out
+  unfolding formulaAnswer formulaAfter
+  formula-unchanged e = refused-leaves Refused Done done-apart (formulaFault m β reading (length out)) out _ e
+
+  pub formula-refuses : RefusesInOrder (formulaAnswer m β reading out) Refused Done
+      (lentRules m β (length out) ∷ ((16 unless isRead reading) ∷ []) ∷ ((9 unless readingExists m β reading) ∷ []) ∷ [])
+  unfolding formulaAnswer formulaFault formulaRules lentRules readingRules
+  formula-refuses =
+      refuses-in-order Refused Done done-apart same-outcome
+      (lentRules m β (length out) ∷ ((16 unless isRead reading) ∷ []) ∷ ((9 unless readingExists m β reading) ∷ []) ∷ []) refl
 
 -- ---- codes
 

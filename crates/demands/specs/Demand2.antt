@@ -30,6 +30,7 @@ use Rattle.slices.specs.Lengths.{isPower}
 use Rattle.slices.specs.LengthLaws.{power-is}
 use Rattle.signature.specs.Signature.{Cauchy, HasCauchy}
 use Rattle.dyadic.specs.Block.{matrix, blockSum, blockProduct, total, blockInverse}
+use Rattle.dyadic.specs.Invertible.{isInvertible}
 use Rattle.dyadic.specs.Laws.{matrix-sum, matrix-product, left-inverse, right-inverse, no-left-inverse, no-right-inverse}
 use Rattle.dyadic.specs.Matrix.{Matrix, Same, matrixSum, matrixProduct, identity}
 use Rattle.blocks.specs.Answers.{sizeRules, blockRules, pairRules, inverseRules, pairFault, inverseFault}
@@ -189,7 +190,8 @@ module _ (m : ℕ) (a out : List ℕ) where
       let (log, low, is) = power-is (length a) p in
       record { log = log; long = is; width = width-is m w; elements = elements-are m a .0 e }
 
-  alive : not (eqb (total (gf m) a) 0) ≡ true → total (gf m) a ≢ 0
+  alive : isInvertible m a ≡ true → total (gf m) a ≢ 0
+  unfolding isInvertible
   alive t z = false≢true (sym (not-true (eqb (total (gf m) a) 0) t) ∙ eq-eqb (total (gf m) a) 0 z)
 
   abbrev Inverses : List ℕ → ℕ → Type 0
@@ -214,7 +216,7 @@ module _ (m : ℕ) (a out : List ℕ) where
       (left-inverse (gf m) F (H .log) a (H .long) ins nonzero, right-inverse (gf m) F (H .log) a (H .long) ins nonzero))
 
   dead : inverseAnswer m a out ≡ Refused 9 → Shaped × (total (gf m) a ≡ 0)
-  unfolding inverseRules blockRules sizeRules
+  unfolding inverseRules blockRules sizeRules isInvertible
   dead e =
       let below = block-inverse-refuses m a out .2 9 e .below in
       let w = below .0 (omega arith) in

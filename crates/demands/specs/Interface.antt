@@ -29,6 +29,9 @@ use Rattle.field.specs.Words.{widest, word}
 use Rattle.slices.specs.Bits.{allBits}
 use Rattle.blocks.specs.Answers.{sizeRules, blockRules, pairRules, inverseRules, pairFault as blockPairFault, inverseFault as blockInverseFault}
 use Rattle.blocks.specs.Answers.{sumAnswer as blockSumAnswer, productAnswer as blockProductAnswer, inverseAnswer as blockInverseAnswer}
+use Rattle.formula.specs.Letters.{Lent}
+use Rattle.formula.specs.Reading.{TextReading}
+use Rattle.formula.specs.Answers.{lentRules, readingRules, formulaRules, formulaFault, formulaAnswer}
 use Rattle.signature.specs.Tests.{signatureRules}
 use Rattle.params.specs.declared.Parameters.{Parameters}
 use Rattle.params.specs.Accepted.{n-short}
@@ -63,7 +66,7 @@ use Rattle.demands.specs.Outcomes.{compared-apart, same-sameness}
 
 -- the greatest number of 01's table
 abbrev pub greatestNumber : ℕ
-greatestNumber = 15
+greatestNumber = 16
 
 -- C reads a value as it is, and a refusal as a negative number
 abbrev pub IsValue : ℕ → Type 0
@@ -116,6 +119,11 @@ module _ (m : ℕ) (a b out : List ℕ) where
 pub zov-block-inverse : (m : ℕ) (a out : List ℕ) → ToldApart outcomeCode (blockInverseAnswer m a out) Refused Done
 unfolding blockInverseAnswer blockInverseFault inverseRules blockRules sizeRules
 zov-block-inverse m a out = outcome-told (inverseRules m a (length out)) refl
+
+-- at whatever the text reads as
+pub zov-formula : (m : ℕ) (β : Lent) (reading : TextReading) (out : List ℕ) → ToldApart outcomeCode (formulaAnswer m β reading out) Refused Done
+unfolding formulaAnswer formulaFault formulaRules lentRules readingRules
+zov-formula m β reading out = outcome-told (formulaRules m β reading (length out)) refl
 
 module _ (c : Parameters) (h : List ℕ) where
   pub zov-check : (roots support : List ℕ) → ToldApart outcomeCode (checkAnswer c h roots support) Refused Done

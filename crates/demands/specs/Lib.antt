@@ -6,6 +6,7 @@ pub mod Demand2
 pub mod Demand3
 pub mod Rows
 pub mod Field
+pub mod Formula
 pub mod Columns
 pub mod Alike
 pub mod SameMatrix

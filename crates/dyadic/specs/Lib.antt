@@ -1,7 +1,9 @@
 pub mod Block
+pub mod Invertible
 pub mod Matrix
 pub mod Convolution
 pub mod Entries
+pub mod BlockElements
 pub mod Sums
 pub mod Inverse
 pub mod Laws

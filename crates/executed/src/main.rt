@@ -1,5 +1,6 @@
-// The cases that are executed: the toy example, which is 01's card T, every pair of a gear and a lamp on it, and the limits. What this prints is
-// compared with the stored output.
+// The cases that are executed: the toy example, which is 01's card T, every pair of a gear and a lamp on it, the limits, and formulas. What this
+// prints is compared with the stored output.
+mod formulas;
 mod pairs;
 
 use field::Elem;
@@ -181,4 +182,5 @@ fn main() {
     show_root_count(2);
     show_root_count(4);
     show_empty_message();
+    formulas::show_formulas();
 }

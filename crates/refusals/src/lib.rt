@@ -48,6 +48,9 @@ pub const NO_SUCH_BLOCK: u32 = 14;
 // A shift of a selection that is t or more.
 pub const SHIFT: u32 = 15;
 
+// A text that is no formula, or that names a block that is not lent.
+pub const NO_FORMULA: u32 = 16;
+
 // The end of a call whose result stands in lent buffers: they are written only where it is Done.
 pub enum Outcome {
     Done,

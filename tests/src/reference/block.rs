@@ -65,7 +65,7 @@ pub fn matrix_inverse(m: u32, a: &Matrix) -> Option<Matrix> {
 }
 
 /// 1 for the width; 2 for a length that no block has, blocks of unequal lengths or a result of another length; 3.
-fn judge(m: u32, blocks: &[&[Elem]], result_length: usize) -> Result<(), u32> {
+pub fn judge(m: u32, blocks: &[&[Elem]], result_length: usize) -> Result<(), u32> {
     if field::word(m).is_none() {
         return Err(1);
     }

@@ -11,6 +11,7 @@ use Rattle.refusals.specs.Ending.{first-refuses}
 use Rattle.refusals.specs.declared.Outcome.the-variants.{Refused}
 use Rattle.field.specs.Gf.{gf}
 use Rattle.dyadic.specs.Block.{quotient, blockInverse}
+use Rattle.dyadic.specs.Invertible.{isInvertible}
 use Rattle.blocks.specs.Answers.{sizeRules, blockRules, blockFault, inverseRules, inverseFault, inverseAnswer, inverseAfter}
 use Rattle.blocks.proofs.Checked.{block-checked, total-checked}
 use Rattle.blocks.proofs.inverse.Statement.{statement}
@@ -31,7 +32,7 @@ total-requires : tie.Need-total-requires
 total-requires c κs = search needs
 
 returns-2 : tie.Need-returns-2
-unfolding inverseAnswer inverseAfter inverseFault inverseRules blockFault blockRules sizeRules
+unfolding inverseAnswer inverseAfter inverseFault inverseRules blockFault blockRules sizeRules isInvertible
 returns-2 c =
     let e = c .before .before in
     let g = e .before .before .before .before .args in
@@ -59,7 +60,7 @@ same-length : tie.Need-same-length
 same-length c = search needs
 
 returns-3 : tie.Need-returns-3
-unfolding inverseAnswer inverseAfter inverseFault inverseRules blockFault blockRules sizeRules blockInverse
+unfolding inverseAnswer inverseAfter inverseFault inverseRules blockFault blockRules sizeRules blockInverse isInvertible
 returns-3 c =
     let d = c .before .before .before .before .before in
     let e = d .before .before in

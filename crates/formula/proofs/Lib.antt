@@ -1,0 +1,5 @@
+pub mod Room
+pub mod Steps
+pub mod Refusing
+pub mod Found
+pub mod Ending

@@ -1,0 +1,172 @@
+-- `sum` meets its contract: a product, to which each turn of the loop adds another. The loop's invariant: a sum that is held up to the first cursor,
+-- from whatever place on, is held up to the present one.
+use mathlib.Core.Path.{_≡_, refl, sym, _∙_}
+use mathlib.Core.List.{List}
+use Prim.Native.Nat.{ℕ, _-_}
+use native.Mathlib.Omega.{arith}
+use lib.ListN.{length, getD}
+use borrow.Author.Needs.{needs}
+use borrow.Fn.Kinds.{In}
+use Rattle.formula.specs.declared.evaluators.Cursor.{Cursor}
+use Rattle.formula.specs.declared.evaluators.Found.{Found}
+use Rattle.formula.specs.Letters.{Lent, lending}
+use Rattle.formula.specs.Evaluated.{sums, products, Held, Ends, Finds}
+use Rattle.formula.proofs.Found.{found-read, resized, moves-read, product-first, product-none, addend-none, sum-read}
+use Rattle.formula.proofs.evaluators.product.Reads as product-reads
+use Rattle.formula.proofs.evaluators.byte_at.Reads as byte-at-reads
+use Rattle.formula.proofs.evaluators.add_product.Reads as add-product-reads
+use Rattle.formula.proofs.evaluators.sum.Reads as reads
+use Rattle.formula.proofs.evaluators.sum.Kinds as kinds
+use Rattle.formula.proofs.evaluators.+add_product+multiply_term+product+sum+term.Lts-sum as lts
+use Rattle.formula.proofs.evaluators.+add_product+multiply_term+product+sum+term.Proof.Measure.{μ-product, μ-add-product, μ-sum, at, below}
+
+abbrev Inv-loop : lts.InvT-loop
+Inv-loop m text a b c d brackets value₀ cursor₀ value cursor =
+    (length value ≡ length value₀) × Ends products (getD text (cursor .at) 0)
+    × ((start : Cursor) → Held sums m (lending a b c d) brackets text start cursor₀ value₀
+    → Held sums m (lending a b c d) brackets text start cursor value)
+
+abbrev μ-loop : lts.MeasureT-loop
+μ-loop m text a b c d brackets value₀ cursor₀ value cursor = length text - cursor .at
+
+-- what it is given at the measure t, and what it calls
+module _ (t : ℕ) where
+  abbrev given : In 6 kinds.ps
+  given = at μ-sum reads.Pre t
+
+  abbrev calls : lts.Claims
+  calls = (
+    below μ-product product-reads.Pre t,
+    product-reads.Post,
+    byte-at-reads.Asked,
+    byte-at-reads.Learnt,
+    below μ-add-product add-product-reads.Pre t,
+    add-product-reads.Post,
+  )
+
+  -- the arguments, from the place after the first product
+  module _ (c : lts.After-product calls given reads.Post Inv-loop μ-loop) where
+    abbrev start : lts.Start calls given reads.Post Inv-loop μ-loop
+    start = c .before .before .before .before .before .before .before .before
+
+    abbrev from : Cursor
+    from = start .args .from
+
+    abbrev lent : Lent
+    lent = lending (start .args .a .now) (start .args .b .now) (start .args .c .now) (start .args .d .now)
+
+    abbrev SumTo : Cursor → List ℕ → Type 0
+    SumTo = Held sums (start .args .m) lent (start .args .brackets) (start .args .text .now) from
+
+    abbrev SumFound : List ℕ → Found → Type 0
+    SumFound = Finds sums products (start .args .m) lent (start .args .brackets) (start .args .text .now) from
+
+  -- the sum up to a turn of the loop
+  module _ (c : lts.At-loop calls given reads.Post Inv-loop μ-loop) where
+    abbrev first : lts.After-product calls given reads.Post Inv-loop μ-loop
+    first = c .before .before .before .before .before .before
+
+    held : SumTo first (c .loop .cursor) (c .loop .value)
+    held = c .loop .inv .2 (from first) (product-first {β = lent first} (first .product .ensures) (c .before .before .found .given .1))
+
+  -- and with one product more
+  module _ (c : lts.After-add-product calls given reads.Post Inv-loop μ-loop) where
+    abbrev turn : lts.At-loop calls given reads.Post Inv-loop μ-loop
+    turn = c .before .before .before .before
+
+    longer : SumFound (first turn) (c .add-product .last .1 .1 .1 .1 .1 .1 .1 .1 .0) (c .add-product .result)
+    longer = c .add-product .ensures .0 (from (first turn)) (held turn)
+
+  product-requires : lts.Need-product-requires calls given reads.Post Inv-loop μ-loop
+  product-requires c κs = search needs
+
+  enum-known-found : lts.Need-enum-known-found calls given reads.Post Inv-loop μ-loop
+  enum-known-found c = search needs
+
+  enum-told : lts.Need-enum-told calls given reads.Post Inv-loop μ-loop
+  enum-told c = search needs
+
+  same-length : lts.Need-same-length calls given reads.Post Inv-loop μ-loop
+  same-length c = search needs
+
+  returns : lts.Need-returns calls given reads.Post Inv-loop μ-loop
+  returns c = product-none (c .before .before .before .before .product .ensures) (c .enum-told .given .1)
+
+  loop-holds : lts.Need-loop-holds calls given reads.Post Inv-loop μ-loop
+  loop-holds c =
+      let call = c .before .before .before .before .before in
+      let (h, ends) = found-read {β = lent call} (call .product .ensures) (c .before .found .given .1) in (refl, ends, λ s k. k)
+
+  byte-at-requires : lts.Need-byte-at-requires calls given reads.Post Inv-loop μ-loop
+  byte-at-requires c κs = search needs
+
+  add-product-requires : lts.Need-add-product-requires calls given reads.Post Inv-loop μ-loop
+  add-product-requires c κs =
+      let turn = c .before .before .before in
+      let i = turn .loop .inv in
+      let call = first turn in (
+        omega (arith, start call .pre .0),
+        (
+          resized (start call .pre .1) (i .0 ∙ call .product .kept .1 .1 .1 .1 .1 .1 .1 .1 .0),
+          sym (c .before .before .byte-at .ensures) ∙ c .before .if1 .taken,
+        ),
+      )
+
+  enum-known-more : lts.Need-enum-known-more calls given reads.Post Inv-loop μ-loop
+  enum-known-more c = search needs
+
+  enum-told-2 : lts.Need-enum-told-2 calls given reads.Post Inv-loop μ-loop
+  enum-told-2 c = search needs
+
+  same-length-2 : lts.Need-same-length-2 calls given reads.Post Inv-loop μ-loop
+  same-length-2 c = search needs
+
+  returns-2 : lts.Need-returns-2 calls given reads.Post Inv-loop μ-loop
+  returns-2 c =
+      let call = c .before .before .before .before in
+      addend-none {β = lent (first (turn call))} (longer call) (c .enum-told2 .given .1)
+
+  loop-less : lts.Need-loop-less calls given reads.Post Inv-loop μ-loop
+  loop-less c =
+      let call = c .before .before .before .before .before in
+      let read = c .before .more .given .1 in
+      let (h, ends) = found-read {β = lent (first (turn call))} (longer call) read in
+      let l = moves-read (call .add-product .ensures .1) read in omega (arith, h .inside)
+
+  loop-again : lts.Need-loop-again calls given reads.Post Inv-loop μ-loop
+  loop-again c =
+      let call = c .before .before .before .before .before in
+      let read = c .before .more .given .1 in
+      let i = turn call .loop .inv in
+      let (h, ends) = found-read {β = lent (first (turn call))} (longer call) read in (
+        call .add-product .kept .1 .1 .1 .1 .1 .1 .1 .1 .0 ∙ i .0,
+        ends,
+        λ s k. found-read {β = lent (first (turn call))} (call .add-product .ensures .0 s (i .2 s k)) read .0,
+      )
+
+  same-length-3 : lts.Need-same-length-3 calls given reads.Post Inv-loop μ-loop
+  same-length-3 c = search needs
+
+  returns-3 : lts.Need-returns-3 calls given reads.Post Inv-loop μ-loop
+  returns-3 c =
+      let turn = c .before .before in sum-read (held turn) (turn .loop .inv .1) (c .before .byte-at .ensures) (c .if1 .left)
+
+  pub sum-meets : {M : Type 1} → lts.Closed calls given reads.Post M
+  sum-meets =
+      lts.spec calls given reads.Post Inv-loop μ-loop
+      product-requires
+      enum-known-found
+      enum-told
+      same-length
+      returns
+      loop-holds
+      byte-at-requires
+      add-product-requires
+      enum-known-more
+      enum-told-2
+      same-length-2
+      returns-2
+      loop-less
+      loop-again
+      same-length-3
+      returns-3

@@ -1,0 +1,15 @@
+pub mod Letters
+pub mod Grammar
+pub mod Reading
+pub mod Value
+pub mod Answers
+pub mod Callers
+pub mod CallerLaws
+pub mod ValueLaws
+pub mod Parser
+pub mod Passing
+pub mod Evaluated
+pub mod Tokens
+pub mod Written
+pub mod SingleReading
+pub mod Deciding
