@@ -18,6 +18,12 @@ static char text[2048], listing[4096];
 static size_t text_length;
 static int k;
 
+/* A ride whose steps are a row with T bits turned. */
+enum { STEPS = 3 };
+static const uint8_t gears[STEPS] = {1, 1, 1}, lamps[STEPS] = {0, 0, 0};
+static uint8_t turned[STEPS * N];
+static uint32_t counts[4];
+
 /* A selection of CHOSEN blocks, its number of message columns, and a row's word with T bits turned. */
 static uint32_t blocks[CHOSEN], shifts[CHOSEN];
 static int selected_k;
@@ -46,6 +52,9 @@ static int32_t word_message(void) { return zov_message(M, N, T, 0, h, N, word, N
 static int32_t repair(void) { return zov_repair(M, N, T, 0, h, N, received, N, repaired, N); }
 static int32_t write_row(void) { return zov_write_row(M, N, T, 0, h, N, 1, 0, word, N); }
 static int32_t read_row(void) { return zov_read_row(M, N, T, 0, h, N, received, N, repaired, N); }
+static int32_t ride(void) {
+    return zov_ride(M, N, T, 0, h, N, gears, STEPS, lamps, STEPS, turned, STEPS * N, counts, 4);
+}
 static int32_t selection_roles(void) { return zov_selection_roles(SELECTION, roles, LENGTH); }
 static int32_t selection_syndrome(void) {
     return zov_selection_syndrome(SELECTION, selected_received, LENGTH, syndrome, T);
@@ -73,6 +82,7 @@ static const struct call {
     {"zov_check", check},             {"zov_same", same},                   {"zov_roles", code_roles},
     {"zov_syndrome", word_syndrome},  {"zov_encode", encode},               {"zov_message", word_message},
     {"zov_repair", repair},           {"zov_write_row", write_row},         {"zov_read_row", read_row},
+    {"zov_ride", ride},
     {"zov_selection_roles", selection_roles},
     {"zov_selection_syndrome", selection_syndrome},
     {"zov_selection_encode", selection_encode},
@@ -138,6 +148,8 @@ int main(void) {
     memcpy(received, word, N);
     for (int i = 0; i < T; i++)
         received[i * 16] ^= 1;
+    for (int i = 0; i < STEPS * N; i++)
+        turned[i] = i % 16 == 0; /* as received */
     text_length = sprintf(text, "%4d%4d%4d%4d\n", M, N, T, 0);
     for (int i = 0; i < N; i++)
         text_length += sprintf(text + text_length, "%4d", h[i]);

@@ -3,7 +3,7 @@
  * A function returns 0 or more, which is its value, or minus the number of the refusal (the table in README.md).
  * Any value of a number may come in: what is out of range is refused, and nothing is undefined. A pointer goes with
  * the number of its elements, points to that many, and does not overlap a buffer that is written. Buffers are written
- * only where the value is 0 or more. */
+ * only where the value is 0 or more; the one exception is zov_ride, which writes its counts with -8 and -11 too. */
 #ifndef ZOVUNELITH_H
 #define ZOVUNELITH_H
 
@@ -57,7 +57,7 @@ int32_t zov_check(uint32_t m, uint32_t n, uint32_t t, uint32_t omega, const zov_
 
 /* 1 if two codes are the same, their m, n, t, omega and h being equal, and 0 if not; refused by the lower number of both
  * codes. Two accepted codes that differ in omega alone have other roots and another support; the functions for words,
- * for repair and for rows, and those for selections, give the same values for both and write the same. */
+ * for repair, for rows and for rides, and those for selections, give the same values for both and write the same. */
 int32_t zov_same(uint32_t m1, uint32_t n1, uint32_t t1, uint32_t omega1, const zov_elem *h1, size_t h1_length,
                  uint32_t m2, uint32_t n2, uint32_t t2, uint32_t omega2, const zov_elem *h2, size_t h2_length);
 
@@ -90,6 +90,21 @@ int32_t zov_write_row(uint32_t m, uint32_t n, uint32_t t, uint32_t omega, const 
                       uint32_t gear, uint32_t lamp, uint8_t *word, size_t word_length);
 int32_t zov_read_row(uint32_t m, uint32_t n, uint32_t t, uint32_t omega, const zov_elem *h, size_t h_length,
                      const uint8_t *received, size_t received_length, uint8_t *repaired, size_t repaired_length);
+
+/* A ride of at most 1,000 steps. Each step writes the row of a gear and a lamp, turns the marked places of its word and
+ * reads the row. `gears` and `lamps` have a byte for each step, so that gears_length is the number of steps; `turned`
+ * has n bytes for each, step after step, 1 for a place that is turned and 0 for another. Four numbers go into `counts`:
+ * the steps, and of these the ones that were right (read as the row that was sent), held (refused by reading: 10 or 11)
+ * and wrong (read as another row). The last three add up to the first. Where no step turns more than t places, held and
+ * wrong are 0. With no steps the lists `gears`, `lamps` and `turned` may be null pointers. The value is 0.
+ *
+ * Refused by 1 to 7, with 2 for more than 1,000 steps, for another length of `lamps` or `turned` and for counts_length
+ * other than 4; then by 12, before the ride starts and with no steps too; then, step by step, by 8 (a mark that is
+ * neither 0 nor 1) and by 11 (no such row), 8 being first in one step. 8 and 11 end the ride, and the counts of the
+ * steps before that one are written all the same. With every other refusal `counts` is left alone. */
+int32_t zov_ride(uint32_t m, uint32_t n, uint32_t t, uint32_t omega, const zov_elem *h, size_t h_length,
+                 const uint8_t *gears, size_t gears_length, const uint8_t *lamps, size_t lamps_length,
+                 const uint8_t *turned, size_t turned_length, uint32_t *counts, size_t counts_length);
 
 /* Selections: words over some blocks of a code, a block being t columns in a row. `blocks` names 1 to n / t blocks, by
  * numbers below n / t, in any order and each at most once; `shifts` has a number below t for each of them. Place

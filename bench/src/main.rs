@@ -11,12 +11,12 @@ use std::env;
 use std::hint::black_box;
 use std::process::{exit, Command, Output};
 use std::time::Instant;
-use zovunelith::{block, field, sheet, Code, Lamp, Row, Selection};
+use zovunelith::{block, field, sheet, Code, Lamp, Row, Selection, LONGEST_RIDE};
 
 /// m, n and t.
 const SHAPES: [(u32, u32, u32); 4] = [(5, 16, 2), (8, 64, 4), (8, 128, 8), (8, 128, 64)];
 
-const CALLS: [&str; 24] = [
+const CALLS: [&str; 25] = [
     "field sum",
     "field product",
     "field inverse",
@@ -33,6 +33,7 @@ const CALLS: [&str; 24] = [
     "repair",
     "write row",
     "read row",
+    "step of a ride",
     "selection roles",
     "selection syndrome",
     "selection encode",
@@ -42,6 +43,15 @@ const CALLS: [&str; 24] = [
     "selection read row",
     "sheet",
 ];
+
+/// How often a call does what its line shows. Of a ride this is a step; the longest ride is made, so that what is done
+/// once before it starts hardly counts.
+fn times_in_a_call(call: &str) -> usize {
+    match call {
+        "step of a ride" => LONGEST_RIDE,
+        _ => 1,
+    }
+}
 
 const FIRST_DARK: Row = Row { gear: 1, lamp: Lamp::Dark };
 
@@ -97,6 +107,8 @@ struct Words {
     message: Vec<u8>,
     word: Vec<u8>,
     received: Vec<u8>,
+    /// 1 for each place that is turned.
+    marks: Vec<u8>,
     /// A row's word with t places turned, where there is room for rows.
     row_received: Option<Vec<u8>>,
 }
@@ -109,16 +121,13 @@ impl Words {
         let message: Vec<u8> = (0..k).map(|_| random.below(2) as u8).collect();
         let mut word = vec![0; length];
         selection.encode(&message, &mut word).expect("a message");
-        let places = random.choice(length, t);
-        let turned = |word: &[u8]| {
-            let mut word = word.to_vec();
-            places.iter().for_each(|&place| word[place] ^= 1);
-            word
-        };
+        let mut marks = vec![0; length];
+        random.choice(length, t).into_iter().for_each(|place| marks[place] = 1);
+        let turned = |word: &[u8]| word.iter().zip(&marks).map(|(bit, mark)| bit ^ mark).collect();
         let mut row = vec![0; length];
         let row_received = selection.write_row(FIRST_DARK, &mut row).ok().map(|()| turned(&row));
         let received = turned(&word);
-        Words { length, t, k, message, word, received, row_received }
+        Words { length, t, k, message, word, received, marks, row_received }
     }
 }
 
@@ -267,6 +276,12 @@ impl Inputs {
             "formula" => Box::new(move || block::formula(m, FORMULA, [&self.h; 4], &mut out).expect("inverses")),
             "check" => Box::new(move || code.check(&mut out, &mut second).expect("accepted")),
             "same" => Box::new(move || keep(code.same(&code).expect("accepted"))),
+            "step of a ride" => {
+                self.whole.row_received.as_deref()?;
+                let [gears, lamps] = [1, 0].map(|number| vec![number; LONGEST_RIDE]);
+                let (turned, mut counts) = (self.whole.marks.repeat(LONGEST_RIDE), [0; 4]);
+                Box::new(move || code.ride_lists(&gears, &lamps, &turned, &mut counts).expect("rows and marks"))
+            }
             "sheet" => {
                 let mut listing = vec![0; sheet::LONGEST_LISTING];
                 Box::new(move || keep(sheet::listing(&self.text, &mut listing).expect("a sheet")))
@@ -303,6 +318,20 @@ impl Inputs {
                 let card = (self.m, code.t, code.omega, code.h);
                 black_box(card == black_box(card));
             }),
+            "step of a ride" => {
+                self.whole.row_received.as_deref()?;
+                // Before what is timed: a ride does this once, and not in each step.
+                let (inverses, columns) = (check(), code.whole());
+                let (basis, marks) = (columns.basis(), &self.whole.marks);
+                let mut repaired = vec![0; n];
+                Box::new(move || {
+                    for _ in 0..LONGEST_RIDE {
+                        basis.write_row(1, 0, &mut out);
+                        out.iter_mut().zip(marks).for_each(|(bit, mark)| *bit ^= mark);
+                        black_box(columns.read_row_by(&basis, &inverses, &out, &mut repaired).expect("t places"));
+                    }
+                })
+            }
             "sheet" => Box::new(move || keep(rival_listing(&self.field, &self.text))),
             _ => return rival_word_call(move || (check(), code.whole()), &self.whole, call),
         })
@@ -352,7 +381,8 @@ fn times() {
             let (Some(mut product), Some(mut rival)) = (inputs.product_call(call), inputs.rival_call(call)) else {
                 continue;
             };
-            let (product, rival) = (time(&mut product), time(&mut rival));
+            let each = times_in_a_call(call) as f64;
+            let (product, rival) = (time(&mut product) / each, time(&mut rival) / each);
             let (m, n, t) = shape;
             println!("| {call} | {m}, {n}, {t} | {product:.0} | {rival:.0} | {:.2} |", product / rival);
         }
@@ -389,7 +419,9 @@ fn count(side: &str, call: &str, shape: usize) -> Option<u64> {
     let options = ["--callgrind-out-file=/dev/null", "--toggle-collect=zov_bench_counted"];
     let output = under_callgrind(&options, &["once", side, call, &shape.to_string()]);
     let report = String::from_utf8_lossy(&output.stderr).into_owned();
-    report.lines().find_map(|line| line.split("Collected :").nth(1)).and_then(|number| number.trim().parse().ok())
+    let total = report.lines().find_map(|line| line.split("Collected :").nth(1))?;
+    let total: u64 = total.trim().parse().ok()?;
+    Some(total / times_in_a_call(call) as u64)
 }
 
 fn instructions() {

@@ -262,51 +262,13 @@ pub struct Words<'a, Column> {
     column: Column,
 }
 
-/// The rows of the basis by their leading places.
-type Basis = [u128; 128];
+/// An echelon basis of the parity rows by their leftmost one, bit j for place j. Its rows stand at their leading places;
+/// the other places, which hold zero, are those of the message.
+pub struct Basis([u128; 128]);
 
-impl<Column: Fn(usize) -> usize> Words<'_, Column> {
-    /// The entry of the parity check matrix in row i at a place.
-    fn entry(&self, i: usize, place: usize) -> u8 {
-        self.code.h[i ^ (self.column)(place)]
-    }
-
-    pub fn syndrome(&self, word: &[u8], out: &mut [u8]) {
-        for (i, row) in out.iter_mut().enumerate() {
-            *row = (0..word.len()).fold(0, |sum, j| if word[j] == 1 { sum ^ self.entry(i, j) } else { sum });
-        }
-    }
-
-    /// An echelon basis of the parity rows by their leftmost one, bit j for place j.
-    pub fn basis(&self) -> Basis {
-        let mut basis = [0; 128];
-        for i in 0..self.code.t {
-            for bit in 0..self.code.field.m {
-                let mut row =
-                    (0..self.length).fold(0_u128, |row, j| row | u128::from(self.entry(i, j) >> bit & 1) << j);
-                while row != 0 {
-                    let lead = row.trailing_zeros() as usize;
-                    if basis[lead] == 0 {
-                        basis[lead] = row;
-                        break;
-                    }
-                    row ^= basis[lead];
-                }
-            }
-        }
-        basis
-    }
-
-    pub fn roles(&self, out: &mut [u8]) -> u32 {
-        let basis = self.basis();
-        for (role, &row) in out.iter_mut().zip(&basis) {
-            *role = u8::from(row == 0);
-        }
-        out.iter().map(|&role| u32::from(role)).sum()
-    }
-
-    pub fn encode(&self, message: &[u8], word: &mut [u8]) {
-        let basis = self.basis();
+impl Basis {
+    fn encode(&self, message: &[u8], word: &mut [u8]) {
+        let Basis(basis) = self;
         let mut packed = 0_u128;
         let mut taken = 0;
         for place in 0..word.len() {
@@ -325,12 +287,67 @@ impl<Column: Fn(usize) -> usize> Words<'_, Column> {
         }
     }
 
-    pub fn message(&self, word: &[u8], message: &mut [u8]) {
-        let basis = self.basis();
-        let free = (0..word.len()).filter(|&place| basis[place] == 0);
+    fn message(&self, word: &[u8], message: &mut [u8]) {
+        let free = (0..word.len()).filter(|&place| self.0[place] == 0);
         for (bit, place) in message.iter_mut().zip(free) {
             *bit = word[place];
         }
+    }
+
+    pub fn write_row(&self, gear: u8, lamp: u8, word: &mut [u8]) {
+        let mut message = [0; 128];
+        for (place, bit) in message[..5].iter_mut().enumerate() {
+            *bit = (gear | lamp << 3) >> place & 1;
+        }
+        self.encode(&message, word);
+    }
+}
+
+impl<Column: Fn(usize) -> usize> Words<'_, Column> {
+    /// The entry of the parity check matrix in row i at a place.
+    fn entry(&self, i: usize, place: usize) -> u8 {
+        self.code.h[i ^ (self.column)(place)]
+    }
+
+    pub fn syndrome(&self, word: &[u8], out: &mut [u8]) {
+        for (i, row) in out.iter_mut().enumerate() {
+            *row = (0..word.len()).fold(0, |sum, j| if word[j] == 1 { sum ^ self.entry(i, j) } else { sum });
+        }
+    }
+
+    pub fn basis(&self) -> Basis {
+        let mut basis = Basis([0; 128]);
+        for i in 0..self.code.t {
+            for bit in 0..self.code.field.m {
+                let mut row =
+                    (0..self.length).fold(0_u128, |row, j| row | u128::from(self.entry(i, j) >> bit & 1) << j);
+                while row != 0 {
+                    let lead = row.trailing_zeros() as usize;
+                    if basis.0[lead] == 0 {
+                        basis.0[lead] = row;
+                        break;
+                    }
+                    row ^= basis.0[lead];
+                }
+            }
+        }
+        basis
+    }
+
+    pub fn roles(&self, out: &mut [u8]) -> u32 {
+        let basis = self.basis();
+        for (role, &row) in out.iter_mut().zip(&basis.0) {
+            *role = u8::from(row == 0);
+        }
+        out.iter().map(|&role| u32::from(role)).sum()
+    }
+
+    pub fn encode(&self, message: &[u8], word: &mut [u8]) {
+        self.basis().encode(message, word);
+    }
+
+    pub fn message(&self, word: &[u8], message: &mut [u8]) {
+        self.basis().message(word, message);
     }
 
     fn evaluate(&self, half: &[u8], y: u8) -> u8 {
@@ -400,20 +417,27 @@ impl<Column: Fn(usize) -> usize> Words<'_, Column> {
     }
 
     pub fn write_row(&self, gear: u8, lamp: u8, word: &mut [u8]) {
-        let mut message = [0; 128];
-        for (place, bit) in message[..5].iter_mut().enumerate() {
-            *bit = (gear | lamp << 3) >> place & 1;
-        }
-        self.encode(&message, word);
+        self.basis().write_row(gear, lamp, word);
     }
 
     /// gear + 8 × lamp, if the word can be repaired and carries a row.
     pub fn read_row(&self, inverses: &[u8; 128], received: &[u8], repaired: &mut [u8]) -> Option<u32> {
+        self.read_row_by(&self.basis(), inverses, received, repaired)
+    }
+
+    /// The same with a basis that was made before.
+    pub fn read_row_by(
+        &self,
+        basis: &Basis,
+        inverses: &[u8; 128],
+        received: &[u8],
+        repaired: &mut [u8],
+    ) -> Option<u32> {
         let mut word = [0; 128];
         let word = &mut word[..self.length];
         self.repair(inverses, received, word)?;
         let mut message = [0; 128];
-        self.message(word, &mut message);
+        basis.message(word, &mut message);
         let number = (0..5).fold(0, |number, place| number | u32::from(message[place]) << place);
         let (gear, lamp) = (number % 8, number / 8);
         if message[5..].contains(&1) || lamp > 2 || lamp == 1 && gear != 0 && gear != 7 {

@@ -4,23 +4,16 @@
 //!     bash demo              card T, the toy example
 //!     bash demo SHEET        the card on a sheet
 
+mod card;
+
+use card::{rows, Card};
 use std::env;
-use std::fs;
-use std::process::exit;
-use zovunelith::sheet::{self, LONGEST_LISTING};
 use zovunelith::{Code, Lamp, Refusal, Row};
 
 /// The sheet of card T.
 const TOY: &str = "   5  16   2  24\n  12   8  10  22  26   9  16  21  14   5  17   4  30  23  25  31\n";
 
 const FIRST_DARK: Row = Row { gear: 1, lamp: Lamp::Dark };
-
-/// The allowed rows: dark and amber with every gear, green in neutral and in the high neutral only.
-fn rows() -> Vec<Row> {
-    let lamps = [Lamp::Dark, Lamp::Green, Lamp::Amber];
-    let rows = (0..=7).flat_map(|gear| lamps.map(|lamp| Row { gear, lamp }));
-    rows.filter(|row| row.lamp != Lamp::Green || row.gear == 0 || row.gear == 7).collect()
-}
 
 fn turned(word: &[u8], places: &[usize]) -> Vec<u8> {
     let mut word = word.to_vec();
@@ -110,34 +103,18 @@ fn show_all(code: &Code) {
 }
 
 fn main() {
-    let text = match env::args().nth(1) {
-        None => TOY.as_bytes().to_vec(),
-        Some(path) => fs::read(&path).unwrap_or_else(|error| {
-            eprintln!("{path}: {error}");
-            exit(1);
-        }),
-    };
-    let mut listing = vec![0; LONGEST_LISTING];
-    let length = sheet::listing(&text, &mut listing).unwrap_or_else(|refusal| {
-        eprintln!("the sheet is refused by {refusal}");
-        exit(1);
-    });
-    let text = String::from_utf8_lossy(&text);
-    let listing = String::from_utf8_lossy(&listing[..length]);
+    let text = env::args().nth(1).map_or(TOY.as_bytes().to_vec(), |path| card::sheet(&path));
+    let card = Card::of(&text);
     println!("The sheet: m, n, t, offset; then the signature h.");
-    print!("{text}");
+    print!("{}", String::from_utf8_lossy(&text));
     println!("Its listing: m, n, t, offset, rank, k; then column, h, support, and 1 for a message column.");
-    print!("{listing}");
+    print!("{}", card.listing);
     println!();
 
-    // The listing has seen to it that this is a sheet.
-    let numbers: Vec<u32> = text.split_whitespace().map(|number| number.parse().expect("a number")).collect();
-    let h: Vec<u8> = numbers[4..].iter().map(|&entry| entry as u8).collect();
-    let code = Code { m: numbers[0], n: numbers[1], t: numbers[2], omega: numbers[3], h: &h };
-    if let Err(refusal) = code.write_row(FIRST_DARK, &mut vec![0; h.len()]) {
-        println!("This card carries no rows: {refusal}.");
+    if !card.carries_rows() {
         return;
     }
+    let code = card.code();
     show_repair(&code);
     println!();
     show_too_far(&code);

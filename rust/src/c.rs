@@ -151,6 +151,22 @@ extern "C" {
         repaired: *mut u8,
         repaired_length: usize,
     ) -> i32;
+    pub fn zov_ride(
+        m: u32,
+        n: u32,
+        t: u32,
+        omega: u32,
+        h: *const Elem,
+        h_length: usize,
+        gears: *const u8,
+        gears_length: usize,
+        lamps: *const u8,
+        lamps_length: usize,
+        turned: *const u8,
+        turned_length: usize,
+        counts: *mut u32,
+        counts_length: usize,
+    ) -> i32;
     pub fn zov_selection_roles(
         m: u32,
         n: u32,

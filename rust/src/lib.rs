@@ -4,8 +4,9 @@
 //! nothing and needs no standard library, so that firmware can use it.
 //!
 //! A [`Code`] is a card: any values may stand in it, and each call refuses by a [`Refusal`] what breaks a rule. Buffers
-//! are lent by the caller and are left alone by a call that is refused. A [`Selection`] has the calls on words for some
-//! blocks of a code.
+//! are lent by the caller and are left alone by a call that is refused, with one exception: a ride that ends by 8 or 11
+//! writes the counts up to there ([`Code::ride`], which also takes room to work in). A [`Selection`] has the calls on
+//! words for some blocks of a code.
 //!
 //! ```
 //! use zovunelith::{Code, Lamp, Refusal, Row};
@@ -33,6 +34,7 @@ mod c;
 mod code;
 pub mod field;
 mod refusal;
+mod ride;
 mod row;
 mod selection;
 pub mod sheet;
@@ -40,6 +42,7 @@ mod words;
 
 pub use code::Code;
 pub use refusal::Refusal;
+pub use ride::{Counts, Step, LONGEST_RIDE};
 pub use row::{Lamp, Reading, Row};
 pub use selection::Selection;
 

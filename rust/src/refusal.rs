@@ -8,7 +8,7 @@ use core::fmt;
 pub enum Refusal {
     /// 1: the width m is not from 2 to 8.
     Width = 1,
-    /// 2: n, a block's length or a lent buffer's length is not what is asked for.
+    /// 2: n, a block's length, the number of a ride's steps or a lent buffer's length is not what is asked for.
     Length = 2,
     /// 3: an element or the offset is 2^m or more.
     Stranger = 3,
@@ -20,7 +20,7 @@ pub enum Refusal {
     Twin = 6,
     /// 7: t is not a power of two from 1 to n/2.
     Rows = 7,
-    /// 8: a byte of a word or message is neither 0 nor 1.
+    /// 8: a byte of a word, a message or a step's marks is neither 0 nor 1.
     Bit = 8,
     /// 9: the inverse of a block whose elements sum to zero.
     DeadBlock = 9,
@@ -28,7 +28,7 @@ pub enum Refusal {
     TooFar = 10,
     /// 11: a gear or lamp outside the rules.
     NoSuchRow = 11,
-    /// 12: fewer than five message bits, when a row is written or read.
+    /// 12: fewer than five message bits, when a row is written or read, or a ride is to start.
     Narrow = 12,
     /// 13: a text that is no sheet.
     Sheet = 13,
@@ -43,17 +43,17 @@ pub enum Refusal {
 /// Every refusal, with its word on the bench and its meaning.
 const TABLE: [(Refusal, &str, &str); 16] = [
     (Refusal::Width, "width", "m outside 2 to 8"),
-    (Refusal::Length, "length", "n, a block or a lent buffer has another length than is asked for"),
+    (Refusal::Length, "length", "n, a block, a ride or a lent buffer has another length than is asked for"),
     (Refusal::Stranger, "stranger", "an element or offset of 2^m or more"),
     (Refusal::Blank, "blank", "a zero in a signature, or the inverse of zero"),
     (Refusal::Crossed, "crossed", "the rule for 1/h fails for some i and j"),
     (Refusal::Twin, "twin", "two equal entries in a signature"),
     (Refusal::Rows, "rows", "t is not a power of two from 1 to n/2"),
-    (Refusal::Bit, "bit", "a byte of a word or message other than 0 or 1"),
+    (Refusal::Bit, "bit", "a byte of a word, message or step's marks other than 0 or 1"),
     (Refusal::DeadBlock, "dead block", "inverse of a block whose elements sum to zero"),
     (Refusal::TooFar, "too far", "no code word within t bits"),
     (Refusal::NoSuchRow, "no such row", "gear or lamp outside the rules"),
-    (Refusal::Narrow, "narrow", "k below 5 when a row is written or read"),
+    (Refusal::Narrow, "narrow", "k below 5 when a row is written or read, or a ride is to start"),
     (Refusal::Sheet, "sheet", "text that is no sheet"),
     (Refusal::NoSuchBlock, "no such block", "a block number of n/t or more, or one named twice"),
     (Refusal::Shift, "shift", "a shift of t or more"),

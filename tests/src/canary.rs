@@ -2,6 +2,7 @@
 //! have left alone, is seen.
 
 use std::fmt::Debug;
+use std::ptr::{null, null_mut};
 
 /// Entries before and behind the lent ones.
 const GUARD: usize = 64;
@@ -69,6 +70,24 @@ impl<T: Copy + PartialEq + Debug + From<u8>> Lent<T> {
 /// Bytes from 160 to 239: neither 0 nor 1, and a different one at each of 80 neighbouring places.
 fn pattern<T: From<u8>>(index: usize) -> T {
     T::from(160 + (index * 23 % 80) as u8)
+}
+
+/// A slice as C may lend it: an empty one by a null pointer. The Rust crate never does this.
+pub fn pointer<T>(slice: &[T]) -> *const T {
+    if slice.is_empty() {
+        null()
+    } else {
+        slice.as_ptr()
+    }
+}
+
+/// The same for a slice that is written.
+pub fn pointer_mut<T>(slice: &mut [T]) -> *mut T {
+    if slice.is_empty() {
+        null_mut()
+    } else {
+        slice.as_mut_ptr()
+    }
 }
 
 #[cfg(test)]

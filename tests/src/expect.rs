@@ -1,10 +1,12 @@
-//! The calls on words, of a whole code or of a selection, held against what is expected of them: each is made with
-//! canaries around every buffer, and its answer and its buffers are to be those of `expected`.
+//! The calls on words, of a whole code or of a selection, and rides, held against what is expected of them: each is
+//! made with canaries around every buffer, and its answer and its buffers are to be those of `expected`.
 
 use crate::bits::turned;
 use crate::canary::Lent;
-use crate::library::{repair, rows, words};
+use crate::library::{repair, ride, rows, words};
 use crate::reference::columns::Setting;
+use crate::reference::params::Params;
+use crate::reference::ride::{Lists, Ridden};
 use crate::reference::rows::Read;
 use crate::Elem;
 
@@ -85,6 +87,16 @@ pub fn reading_gives(setting: &impl Setting, received: &[u8], mut repaired: Lent
     assert_eq!(answer, expected_answer, "{setting:?}, received {:?}", received.slice());
     received.assert_unchanged();
     repaired.assert_holds(expected.as_ref().ok().map(|read| read.1.as_slice()));
+}
+
+#[track_caller]
+pub fn ride_gives(params: &Params, lists: &Lists, mut counts: Lent<u32>, expected: &Ridden) {
+    let lent = [&lists.gears, &lists.lamps, &lists.turned].map(|list| Lent::holding(list));
+    let answer = ride::lists(params, lent.each_ref().map(Lent::slice), counts.slice_mut());
+    // Rides can be long: their beginning is enough to tell which it is.
+    assert_eq!(answer, expected.answer, "{params:?}, {:.6000}", format!("{lists:?}"));
+    lent.iter().for_each(Lent::assert_unchanged);
+    counts.assert_holds(expected.counts.as_ref().map(|counts| counts.as_slice()));
 }
 
 /// What the call is to answer, of all that is expected.

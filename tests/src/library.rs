@@ -69,13 +69,22 @@ pub mod params {
     }
 }
 
+/// Makes a call on a whole code, and sees that it leaves the signature alone.
+macro_rules! call_on_code {
+    ($params:expr, $code:ident => $call:expr) => {{
+        let params = $params;
+        let h = Lent::holding(&params.h);
+        let $code = code((params.m, params.n, params.t, params.omega), h.slice());
+        let answer = $call;
+        h.assert_unchanged();
+        numbered(answer)
+    }};
+}
+
 /// Makes a call on words, of a whole code or of a selection, and sees that it leaves the lists that it is lent alone.
 macro_rules! call {
-    ($setting:expr, $method:ident($($argument:expr),*)) => {{
-        let params = $setting.params();
-        let h = Lent::holding(&params.h);
-        let code = code((params.m, params.n, params.t, params.omega), h.slice());
-        let answer = match $setting.lists() {
+    ($setting:expr, $method:ident($($argument:expr),*)) => {
+        call_on_code!($setting.params(), code => match $setting.lists() {
             None => code.$method($($argument),*),
             Some((blocks, shifts)) => {
                 let (blocks, shifts) = (Lent::holding(blocks), Lent::holding(shifts));
@@ -85,10 +94,8 @@ macro_rules! call {
                 shifts.assert_unchanged();
                 answer
             }
-        };
-        h.assert_unchanged();
-        numbered(answer)
-    }};
+        })
+    };
 }
 
 /// Roles, syndrome, encoding and taking the message out.
@@ -140,6 +147,33 @@ pub mod rows {
     pub fn read(setting: &impl Setting, received: &[u8], repaired: &mut [u8]) -> Result<(u32, u32, u32), u32> {
         let reading = call!(setting, read_row(received, repaired))?;
         Ok((reading.row.gear, reading.row.lamp as u32, reading.count))
+    }
+}
+
+/// Rides.
+pub mod ride {
+    use super::*;
+    use crate::reference::params::Params;
+    use zovunelith::{Counts, Step};
+
+    /// The most steps of a ride.
+    pub const LONGEST: usize = zovunelith::LONGEST_RIDE;
+
+    /// By gears, lamps and marks as they are lent.
+    #[track_caller]
+    pub fn lists(params: &Params, [gears, lamps, turned]: [&[u8]; 3], counts: &mut [u32]) -> Result<(), u32> {
+        call_on_code!(params, code => code.ride_lists(gears, lamps, turned, counts))
+    }
+
+    /// By steps, which are laid out in a room.
+    #[track_caller]
+    pub fn steps(params: &Params, steps: &[Step], room: &mut [u8], counts: &mut Counts) -> Result<(), u32> {
+        call_on_code!(params, code => code.ride(steps, room, counts))
+    }
+
+    /// The room that steps need.
+    pub fn room(params: &Params, steps: usize) -> usize {
+        code((params.m, params.n, params.t, params.omega), &params.h).ride_room(steps)
     }
 }
 

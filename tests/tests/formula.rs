@@ -1,7 +1,6 @@
 //! Formulas of dyadic blocks, against a reading from the outside in and the full matrices.
 
-use std::ptr::{null, null_mut};
-use zovunelith_tests::canary::Lent;
+use zovunelith_tests::canary::{pointer, pointer_mut, Lent};
 use zovunelith_tests::draw::{block, dead_block, live_block, BAD_BLOCK_LENGTHS, BAD_WIDTHS};
 use zovunelith_tests::library::block as library;
 use zovunelith_tests::random::Random;
@@ -439,7 +438,7 @@ fn lengths_of_texts() {
 }
 
 extern "C" {
-    /// As `include/zovunelith.h` declares it: the Rust crate never lends a null pointer.
+    /// As `include/zovunelith.h` declares it.
     fn zov_formula(
         m: u32,
         text: *const u8,
@@ -457,15 +456,6 @@ extern "C" {
     ) -> i32;
 }
 
-/// Null for an empty slice.
-fn pointer<T>(slice: &[T]) -> *const T {
-    if slice.is_empty() {
-        null()
-    } else {
-        slice.as_ptr()
-    }
-}
-
 /// A null pointer with length 0 is a block that isn't lent, an empty text, or a result of a length that no block has.
 #[test]
 fn null_pointers() {
@@ -478,7 +468,6 @@ fn null_pointers() {
             let expected = reference::formula(5, text, [a, b, c, d], result_length);
             let mut result: Lent<Elem> = Lent::marked(result_length);
             let out = result.slice_mut();
-            let out_pointer = if out.is_empty() { null_mut() } else { out.as_mut_ptr() };
             // SAFETY: each pointer goes with the length of its slice, which is 0 for a null pointer.
             let returned = unsafe {
                 zov_formula(
@@ -493,7 +482,7 @@ fn null_pointers() {
                     c.len(),
                     pointer(d),
                     d.len(),
-                    out_pointer,
+                    pointer_mut(out),
                     out.len(),
                 )
             };

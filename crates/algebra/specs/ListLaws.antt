@@ -8,8 +8,8 @@ use native.Mathlib.Decide.{decLt}
 use native.Mathlib.Numerals.{add-one}
 use native.Mathlib.Omega.{arith}
 use lib.Dec.{eqb}
-use lib.ListN.{length, getD, drop, length-append, List·getD-eq-default}
-use lib.Seq.{drop-cons, ext-getD}
+use lib.ListN.{length, getD, take, drop, length-append, List·getD-eq-default}
+use lib.Seq.{drop-cons, ext-getD, take-at}
 use borrow.Author.Tests.{eqb-true, eq-eqb}
 use Rattle.algebra.specs.All.{all}
 use Rattle.algebra.specs.AllLaws.{all-is, all-true}
@@ -31,6 +31,10 @@ sameList-is a b = (
 -- a list is as long as its first part at least
 pub front-long : {n : ℕ} (l rest : List ℕ) → length l ≡ n → n ≤ length (l ++ rest)
 front-long l rest e = omega (arith, length-append l rest)
+
+-- and that part is as long as it is
+pub length-front : {n : ℕ} (l rest : List ℕ) → length l ≡ n → length (take n (l ++ rest)) ≡ n
+length-front {n} l rest e = ap length (take-at l rest n e) ∙ e
 
 -- ---- a list from a place on
 

@@ -7,4 +7,5 @@ pub mod elements;
 pub mod gear_rows;
 pub mod listings;
 pub mod repairing;
+pub mod riding;
 pub mod selections;

@@ -69,15 +69,16 @@ pub fn whole_code_inverses(
     Counted::Count(c.n)
 }
 
-// Whether a word of this length is one of so many blocks of t places. The product may be too large for a usize, so it is the length that is divided.
-pub fn is_word_length(long: usize, blocks: usize, t: u32) -> bool
-    ensures { λ r. ⌜ r ≡ eqb long (blocks * t) ⌝ }
+// Whether this is the length of so many parts, each as long: of a word of blocks, or of the marks of several words. The product may be too large for
+// a usize, so it is the length that is divided.
+pub fn is_parts_length(long: usize, parts: usize, each: u32) -> bool
+    ensures { λ r. ⌜ r ≡ eqb long (parts * each) ⌝ }
 {
-    let t = t as usize;
-    if t == 0 {
+    let each = each as usize;
+    if each == 0 {
         return long == 0;
     }
-    (long / t == blocks) & (long % t == 0)
+    (long / each == parts) & (long % each == 0)
 }
 
 // Begins a call on words of a selection.

@@ -1,4 +1,4 @@
--- What it means that no call on words tells two codes apart, each at a setting.
+-- What it means that no call on words, and no ride, tells two codes apart, each at a setting.
 use mathlib.Core.Path.{_≡_}
 use mathlib.Core.List.{List}
 use Prim.Native.Nat.{ℕ}
@@ -7,6 +7,8 @@ use Rattle.columns.specs.Setting.{Setting}
 use Rattle.words.specs.Answers.{rolesAnswer, rolesAfter, syndromeAnswer, syndromeAfter, encodeAnswer, encodeAfter, messageAnswer, messageAfter}
 use Rattle.repair.specs.Answers.{repairAnswer, repairAfter}
 use Rattle.rows.specs.Answers.{writeAnswer, writeAfter, readAnswer, readAfter}
+use Rattle.simulation.specs.Steps.{Steps}
+use Rattle.simulation.specs.Answers.{rideAnswer, rideAfter}
 
 -- Each call answers alike, and leaves the same in the lent buffer, whatever it is told and lent, refused or not.
 pub record Alike (c₁ : Parameters) (h₁ : List ℕ) (s₁ : Setting) (c₂ : Parameters) (h₂ : List ℕ) (s₂ : Setting) : Type 0 where
@@ -23,3 +25,5 @@ pub record Alike (c₁ : Parameters) (h₁ : List ℕ) (s₁ : Setting) (c₂ : 
       × (writeAfter c₁ h₁ s₁ gear lamp word ≡ writeAfter c₂ h₂ s₂ gear lamp word)
   pub read-row : (received repaired : List ℕ) → (readAnswer c₁ h₁ s₁ received repaired ≡ readAnswer c₂ h₂ s₂ received repaired)
       × (readAfter c₁ h₁ s₁ received repaired ≡ readAfter c₂ h₂ s₂ received repaired)
+  pub ride : (σ : Steps) (counts : List ℕ) → (rideAnswer c₁ h₁ s₁ σ counts ≡ rideAnswer c₂ h₂ s₂ σ counts)
+      × (rideAfter c₁ h₁ s₁ σ counts ≡ rideAfter c₂ h₂ s₂ σ counts)

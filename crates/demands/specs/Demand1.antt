@@ -4,13 +4,18 @@
 -- That every call ends is part of its proof. Of each call there is said here that a refusal leaves each buffer as it was (`..-unchanged`); and that
 -- it gives its value exactly if all its rules hold, is refused otherwise, and by the lowest number that applies (`..-refuses`). The rules of calls on
 -- words, on sheets and on formulas come in parts, since there are exceptions from the lowest number: the 2, 14 and 15 of a selection come after 7; 12
--- comes after these and before all others (`write-row`, `read-row`); the 2 of a message's length comes after 7, 14 and 15 and before 8 (`encode`,
--- `message`); 16 comes before 9 (`formula`); and 13 comes first, and the 2 of a short buffer last, for a sheet (`listing`).
-use mathlib.Core.Path.{_≡_, refl, sym, ap₂, subst}
+-- comes after these and before all others (`write-row`, `read-row`, `ride`); the 2 of a message's length comes after 7, 14 and 15 and before 8
+-- (`encode`, `message`); the steps of a ride come one after the other, each with 8 and then 11 (`ride`); 16 comes before 9 (`formula`); and 13 comes
+-- first, and the 2 of a short buffer last, for a sheet (`listing`).
+--
+-- The one exception to demand 1: a ride that a step ends, by 8 or 11, writes the counts up to there, without that step (`ride-exception`, and
+-- `counts-up-to-there` of `Ride`). Refused by any other number, it leaves the buffer as it was (`ride-unchanged`).
+use mathlib.Core.Path.{_≡_, refl, sym, ap, ap₂, _∙_, subst}
 use mathlib.Core.Logic.{_≢_, _↔_, _⊎_, inl, inr}
 use mathlib.Core.Bool.{Bool, true, not, _&&_}
 use mathlib.Core.List.{List, [], _∷_, _++_, append-assoc, append-nil}
-use Prim.Native.Nat.{ℕ}
+use Prim.Native.Nat.{ℕ, zero, suc}
+use native.Mathlib.Decide.{ℕ-discrete}
 use native.Mathlib.Omega.{arith}
 use lib.Dec.{eqb, leb}
 use lib.ListN.{length}
@@ -42,6 +47,7 @@ use Rattle.codes.specs.Lowest.{lowest-none, lowest-is}
 use Rattle.codes.specs.Same.{sameCode}
 use Rattle.parity.specs.Columns.{dimension}
 use Rattle.columns.specs.Setting.{Setting, Setting.wholeCode, Setting.selection, places, columnsOf, selectionRules, settingRules}
+use Rattle.columns.specs.SettingLaws.{length-columns}
 use Rattle.messages.specs.MessageRules.{messageRules}
 use Rattle.words.specs.Answers.{bitRules, rolesFault, rolesAnswer, rolesAfter, syndromeFault, syndromeAnswer, syndromeAfter}
 use Rattle.words.specs.Answers.{encodeFault, encodeAnswer, encodeAfter, messageFault, messageAnswer, messageAfter}
@@ -50,14 +56,19 @@ use Rattle.repair.specs.declared.Recovery.the-variants.{Repaired, Refused as No
 use Rattle.repair.specs.Answers.{wordRules, turnedCount, repairFault, repairAnswer, repairAfter}
 use Rattle.rows.specs.declared.Reading.the-variants.{Refused as NotRead}
 use Rattle.rows.specs.Answers.{writeRules, carried, readRules, rowRead, writeFault, writeAnswer, writeAfter, readFault, readAnswer, readAfter}
+use Rattle.rows.specs.Laws.{read-apart, same-reading}
+use Rattle.simulation.specs.Steps.{Steps, stepCount, stepRules, rulesAt, stepsRules}
+use Rattle.simulation.specs.Ride.{rideCounts}
+use Rattle.simulation.specs.Answers.{rideLengths, marksLong, startRules, rideRules, rideFault, rideAnswer, startFault, rideAfter}
 use Rattle.listing.specs.Answers.{roomRules, sheetListing, listingFault, listingAnswer, listingAfter}
 use Rattle.listing.specs.Answers.{storedAnswer, storedAfter, printedText, printedAnswer, printedAfter}
 use Rattle.sheets.specs.Fault.{sheetRules}
 use Rattle.sheets.specs.Sheet.{sheetParameters, sheetH, isSheet}
 use Rattle.demands.specs.Lowest.{rising, Fails, HoldBelow, Lowest, lowest, rising-numbered, below-fault}
-use Rattle.demands.specs.Lowest.{allRules, risingParts, InOrder, parts-numbered, in-order}
-use Rattle.demands.specs.Outcomes.{element-apart, same-element, repaired-apart, same-recovery, read-apart, same-reading}
+use Rattle.demands.specs.Lowest.{allRules, risingParts, InOrder, parts-numbered, in-order, all-both, rising-both}
+use Rattle.demands.specs.Outcomes.{element-apart, same-element, repaired-apart, same-recovery}
 use Rattle.demands.specs.Outcomes.{compared-apart, same-sameness}
+use Rattle.demands.specs.Ride.{Started, starts-exactly, unstarted, after-is, refused-started}
 
 -- a call ends in its value or in a refusal
 abbrev pub EndsIn : {A : Type 0} → A → (ℕ → A) → A → Type 0
@@ -371,6 +382,62 @@ module _ (c : Parameters) (h : List ℕ) (s : Setting) (received repaired : List
   read-row-refuses =
       setting-refuses c h NotRead _ (read-apart _ _) same-reading s true
       (eqb (length received) (places c s) && eqb (length repaired) (places c s)) (readParts c h (columnsOf c s) received) refl
+
+-- ---- rides: "12 is looked for before the ride starts", then one step after the other, and of a step 8 "goes first where one step has both"
+
+module _ (n : ℕ) (σ : Steps) where
+  -- the rules of the first k steps: a part for each
+  abbrev pub stepParts : ℕ → List (List Rule)
+  stepParts zero = []
+  stepParts (suc k) = stepParts k ++ rulesAt n σ k ∷ []
+
+  step-parts-are : (k : ℕ) → allRules (stepParts k) ≡ stepsRules n σ k
+  unfolding stepsRules
+  step-parts-are zero = refl
+  step-parts-are (suc k) =
+      all-both (stepParts k) (rulesAt n σ k ∷ [])
+      ∙ ap₂ (λ (rules more : List Rule). rules ++ more) (step-parts-are k) (append-nil (rulesAt n σ k))
+
+  step-parts-rise : (k : ℕ) → risingParts (stepParts k) ≡ true
+  unfolding rulesAt stepRules
+  step-parts-rise zero = refl
+  step-parts-rise (suc k) = rising-both (stepParts k) (rulesAt n σ k ∷ []) (step-parts-rise k) refl
+
+module _ (c : Parameters) (h : List ℕ) (s : Setting) (σ : Steps) (counts : List ℕ) where
+  pub ride-unchanged : {k : ℕ} → rideAnswer c h s σ counts ≡ Refused k → k ≢ 8 → k ≢ 11 → rideAfter c h s σ counts ≡ counts
+  ride-unchanged {k} e ne ne′ = decided (ℕ-discrete (startFault c h s σ counts) 0)
+    where
+      by-step : (k ≡ 8) ⊎ (k ≡ 11) → ⊥
+      by-step (inl z) = ne z
+      by-step (inr z) = ne′ z
+
+      decided : Dec (startFault c h s σ counts ≡ 0) → rideAfter c h s σ counts ≡ counts
+      decided (yes none) = absurd (by-step (refused-started c h s σ counts e .0 (starts-exactly c h s σ counts .0 none)))
+      decided (no due) = unstarted c h s σ counts due .1
+
+  -- "In both cases the counts up to there, without that step, are written, as the one exception to demand 1": the ride has started, and `Ride` says
+  -- what its counts are.
+  pub ride-exception : {k : ℕ} → rideAnswer c h s σ counts ≡ Refused k → (k ≡ 8) ⊎ (k ≡ 11)
+      → Started c h s σ counts × (rideAfter c h s σ counts ≡ rideCounts c h (columnsOf c s) σ)
+  ride-exception e by-step =
+      let S = refused-started c h s σ counts e .1 by-step in (S, after-is S)
+
+  pub ride-refuses : RefusesInOrder (rideAnswer c h s σ counts) Refused Done
+      (settingParts c h s (rideLengths σ counts) (marksLong σ (places c s))
+      ++ startRules c h (columnsOf c s) ∷ stepParts (places c s) σ (stepCount σ))
+  unfolding rideAnswer rideFault rideRules startRules
+  ride-refuses =
+      let steps = stepParts (places c s) σ (stepCount σ) in
+      let start = startRules c h (columnsOf c s) in
+      let parts = settingParts c h s (rideLengths σ counts) (marksLong σ (places c s)) ++ start ∷ steps in
+      subst
+      (λ (rules : List Rule).
+      RefusesInOrder
+      (unless-refused (fault (settingRules c h s (rideLengths σ counts) (marksLong σ (places c s)) ++ (start ++ rules))) Refused Done) Refused Done
+      parts)
+      (step-parts-are (places c s) σ (stepCount σ) ∙ ap (λ (n : ℕ). stepsRules n σ (stepCount σ)) (sym (length-columns c s)))
+      (setting-refuses c h Refused Done done-apart same-outcome s (rideLengths σ counts) (marksLong σ (places c s)) (start ∷ steps)
+      (step-parts-rise (places c s) σ (stepCount σ)))
 
 -- ---- sheets: 13 "comes first of all"
 

@@ -53,6 +53,9 @@ use Rattle.repair.specs.Answers.{wordRules, turnedCount, repairFault, repairAns
 use Rattle.gears.specs.declared.Row.{Row}
 use Rattle.rows.specs.declared.Reading.the-variants.{Read, Refused as NotRead}
 use Rattle.rows.specs.Answers.{writeRules, readRules, rowRead, writeFault, writeAnswer, readFault, readAnswer}
+use Rattle.rows.specs.Laws.{read-apart, same-reading}
+use Rattle.simulation.specs.Steps.{Steps, stepCount, stepRules, rulesAt, stepsRules}
+use Rattle.simulation.specs.Answers.{rideLengths, marksLong, startRules, rideRules, rideFault, rideAnswer}
 use Rattle.sheets.specs.Sheet.{sheetParameters, sheetH}
 use Rattle.sheets.specs.Fault.{sheetRules, sheetFault}
 use Rattle.sheets.specs.Laws.{sheet-accepted}
@@ -60,8 +63,8 @@ use Rattle.lines.specs.Lengths.{length-listing}
 use Rattle.listing.specs.Answers.{roomRules, sheetListing, listingFault, listingAnswer}
 use Rattle.wire.specs.Wire.{minus, elementCode, outcomeCode, samenessCode, countedCode, recoveryCode, readingCode}
 use Rattle.wire.specs.Readings.{reading-whole}
-use Rattle.demands.specs.Lowest.{upTo, fault-up-to}
-use Rattle.demands.specs.Outcomes.{element-apart, same-element, repaired-apart, same-recovery, read-apart, same-reading}
+use Rattle.demands.specs.Lowest.{upTo, fault-up-to, up-to-both}
+use Rattle.demands.specs.Outcomes.{element-apart, same-element, repaired-apart, same-recovery}
 use Rattle.demands.specs.Outcomes.{compared-apart, same-sameness}
 
 -- the greatest number of 01's table
@@ -138,6 +141,11 @@ unfolding settingRules codeRules shapeRules signatureRules selectionRules
 in-table c h wholeCode others words more u = u
 in-table c h (selection blocks shifts) others words more u = u
 
+steps-in-table : (n : ℕ) (σ : Steps) (k : ℕ) → upTo greatestNumber (stepsRules n σ k) ≡ true
+unfolding stepsRules rulesAt stepRules
+steps-in-table n σ zero = refl
+steps-in-table n σ (suc k) = up-to-both greatestNumber (stepsRules n σ k) (rulesAt n σ k) (steps-in-table n σ k) refl
+
 module _ (c : Parameters) (h : List ℕ) (s : Setting) where
   syndrome-told : (word out : List ℕ) → ToldApart outcomeCode (syndromeAnswer c h s word out) Refused Done
   unfolding syndromeAnswer syndromeFault bitRules
@@ -162,6 +170,13 @@ module _ (c : Parameters) (h : List ℕ) (s : Setting) where
   write-row-told gear lamp word =
       let own = writeRules c h (columnsOf c s) gear lamp in
       outcome-told (settingRules c h s true (eqb (length word) (places c s)) ++ own) (in-table c h s _ _ own refl)
+
+  ride-told : (σ : Steps) (counts : List ℕ) → ToldApart outcomeCode (rideAnswer c h s σ counts) Refused Done
+  unfolding rideAnswer rideFault rideRules startRules
+  ride-told σ counts =
+      let own = rideRules c h (columnsOf c s) σ in
+      outcome-told (settingRules c h s (rideLengths σ counts) (marksLong σ (places c s)) ++ own)
+      (in-table c h s _ _ own (steps-in-table (length (columnsOf c s)) σ (stepCount σ)))
 
   -- what is no more than the places of a word, of a call that is not refused
   count-value : (others words : Bool) (more : List Rule) → fault (settingRules c h s others words ++ more) ≡ 0 → {x : ℕ} → x ≤ places c s → IsValue x
@@ -239,6 +254,9 @@ module _ (c : Parameters) (h : List ℕ) where
 
   pub zov-read-row : (received repaired : List ℕ) → ReadToldApart c h wholeCode received repaired
   zov-read-row = read-row-told c h wholeCode
+
+  pub zov-ride : (σ : Steps) (counts : List ℕ) → ToldApart outcomeCode (rideAnswer c h wholeCode σ counts) Refused Done
+  zov-ride = ride-told c h wholeCode
 
   module _ (blocks shifts : List ℕ) where
     abbrev chosen : Setting

@@ -5,6 +5,8 @@ pub mod Demand1
 pub mod Demand2
 pub mod Demand3
 pub mod Rows
+pub mod Ride
+pub mod Verdicts
 pub mod Field
 pub mod Formula
 pub mod Columns

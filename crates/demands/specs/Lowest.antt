@@ -1,15 +1,15 @@
 -- 01: "the lowest number that applies". For a list of rules whose numbers rise, the number that is given is that of a rule which fails, and no rule
 -- with a lower number fails.
-use mathlib.Core.Path.{_≡_, refl, sym, _∙_, subst}
+use mathlib.Core.Path.{_≡_, refl, sym, ap, _∙_, subst}
 use mathlib.Core.Logic.{_≢_, _⊎_, inl, inr}
-use mathlib.Core.Bool.{Bool, true, false, _&&_}
-use mathlib.Core.List.{List, [], _∷_, _++_}
+use mathlib.Core.Bool.{Bool, true, false, not, _&&_}
+use mathlib.Core.List.{List, [], _∷_, _++_, append-assoc}
 use Prim.Native.Nat.{ℕ, zero, suc, _<_, _≤_}
 use native.Mathlib.Decide.{ℕ-discrete}
 use native.Mathlib.Omega.{arith}
-use lib.Dec.{T, leb}
-use borrow.Author.Tests.{leb-true}
-use Rattle.algebra.specs.Flags.{both-true}
+use lib.Dec.{T, eqb, leb}
+use borrow.Author.Tests.{leb-true, eqb-false, not-true}
+use Rattle.algebra.specs.Flags.{both-true, both-hold}
 use Rattle.refusals.specs.Rules.{Rule, _unless_, Hold, fault, numbered}
 use Rattle.refusals.specs.RuleLaws.{hold, fault-first, fault-rest, numbered-both}
 
@@ -131,6 +131,17 @@ in-order (part ∷ parts) r ne = decided (in-order parts (both .1)) (ℕ-discret
         inr (hold part are z, subst (λ (k : ℕ). InOrder k parts) (sym rest) (later (λ q. ne (rest ∙ q))))
     decided later (no due) = inl (subst (λ (k : ℕ). Lowest k part) (sym (fault-first part (allRules parts) due)) (lowest part (both .0) due))
 
+-- parts with more parts after them
+pub all-both : (parts more : List (List Rule)) → allRules (parts ++ more) ≡ allRules parts ++ allRules more
+all-both [] more = refl
+all-both (part ∷ parts) more =
+    ap (λ (rules : List Rule). part ++ rules) (all-both parts more) ∙ sym (append-assoc part (allRules parts) (allRules more))
+
+pub rising-both : (parts more : List (List Rule)) → risingParts parts ≡ true → risingParts more ≡ true → risingParts (parts ++ more) ≡ true
+rising-both [] more r q = q
+rising-both (part ∷ parts) more r q =
+    let (here, rest) = both-true (rising 1 part) (risingParts parts) r in both-hold here (rising-both parts more rest q)
+
 -- ---- no number of the rules is above l
 
 abbrev pub upTo : ℕ → List Rule → Bool
@@ -142,3 +153,20 @@ unfolding fault
 fault-up-to l [] u = omega arith
 fault-up-to l ((n unless true) ∷ rules) u = fault-up-to l rules (both-true (leb n l) (upTo l rules) u .1)
 fault-up-to l ((n unless false) ∷ rules) u = leb-true n l (both-true (leb n l) (upTo l rules) u .0)
+
+pub up-to-both : (l : ℕ) (rules more : List Rule) → upTo l rules ≡ true → upTo l more ≡ true → upTo l (rules ++ more) ≡ true
+up-to-both l [] more u v = v
+up-to-both l ((n unless t) ∷ rules) more u v =
+    let (first, rest) = both-true (leb n l) (upTo l rules) u in both-hold first (up-to-both l rules more rest v)
+
+-- ---- no number of the rules is k
+
+abbrev pub lacks : ℕ → List Rule → Bool
+lacks k [] = true
+lacks k ((n unless t) ∷ rules) = not (eqb n k) && lacks k rules
+
+pub fault-lacks : (k : ℕ) (rules : List Rule) → k ≢ 0 → lacks k rules ≡ true → fault rules ≢ k
+unfolding fault
+fault-lacks k [] ne f e = ne (sym e)
+fault-lacks k ((n unless true) ∷ rules) ne f e = fault-lacks k rules ne (both-true (not (eqb n k)) (lacks k rules) f .1) e
+fault-lacks k ((n unless false) ∷ rules) ne f e = eqb-false n k (not-true (eqb n k) (both-true (not (eqb n k)) (lacks k rules) f .0)) e

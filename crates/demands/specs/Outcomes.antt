@@ -1,4 +1,4 @@
--- The answers of the calls: values are no refusals, and refusals tell their numbers. Those of `refusals` stand there.
+-- The answers of the calls: values are no refusals, and refusals tell their numbers. Those of `refusals` and of `rows` stand there.
 use mathlib.Core.Path.{_≡_}
 use mathlib.Core.Logic.{_≢_}
 use mathlib.Core.Bool.{Bool, true, false}
@@ -8,8 +8,6 @@ use Rattle.field.specs.declared.Answer.the-variants.{Element, Refused as NoElem
 use Rattle.codes.specs.declared.Sameness.the-variants.{Refused as NotCompared}
 use Rattle.codes.specs.Answers.{compared}
 use Rattle.repair.specs.declared.Recovery.the-variants.{Repaired, Refused as NotRepaired}
-use Rattle.gears.specs.declared.Row.{Row}
-use Rattle.rows.specs.declared.Reading.the-variants.{Read, Refused as NotRead}
 
 pub element-apart : (a k : ℕ) → NoElement k ≢ Element a
 element-apart a k e =
@@ -24,13 +22,6 @@ repaired-apart n k e =
 
 pub same-recovery : (i j : ℕ) → NotRepaired i ≡ NotRepaired j → i ≡ j
 same-recovery i j e = cc
-
-pub read-apart : (row : Row) (n k : ℕ) → NotRead k ≢ Read row n
-read-apart row n k e =
-    let z : _≡_ {A = ℕ} 0 1 = cc in absurd (omega arith)
-
-pub same-reading : (i j : ℕ) → NotRead i ≡ NotRead j → i ≡ j
-same-reading i j e = cc
 
 pub compared-apart : (b : Bool) (k : ℕ) → NotCompared k ≢ compared b
 unfolding compared

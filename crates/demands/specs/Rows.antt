@@ -85,7 +85,7 @@ module _ {c : Parameters} {h : List ℕ} (A : Accepted c h) (s : Setting) (F : F
 
   module _ {received : List ℕ} (bits : IsBits (places c s) received) (repaired : List ℕ) (lent : length repaired ≡ places c s) where
     -- past 12 and 8 there is 10, and then 11
-    fault-is : readFault c h s received repaired
+    pub fault-is : readFault c h s received repaired
         ≡ fault ((10 unless isRepairable c h (columnsOf c s) received) ∷ (11 unless isRowMessage (carried c h (columnsOf c s) received)) ∷ [])
     unfolding readFault readRules wordRules
     fault-is =

@@ -1,13 +1,14 @@
--- When no call on words tells two codes apart, each at a setting.
+-- When no call on words, and no ride, tells two codes apart, each at a setting.
 --
 -- The calls depend on the code and on the setting by the rules that are looked at before the call's own, by the number of roots, which is the length
 -- of a syndrome, and by the parity check matrix. Where these are the same, the calls answer alike.
-use mathlib.Core.Path.{_≡_, refl, ap, ap₂, _∙_}
+use mathlib.Core.Path.{_≡_, refl, ap, ap₂, _∙_, fun-ext}
 use mathlib.Core.Bool.{Bool, true, _&&_}
 use mathlib.Core.List.{List, [], _∷_, _++_}
 use Prim.Native.Nat.{ℕ}
 use lib.Dec.{eqb, leb}
 use lib.ListN.{length}
+use Rattle.algebra.specs.Places.{count}
 use Rattle.refusals.specs.declared.Counted.the-variants.{Count, Refused as NotCounted}
 use Rattle.refusals.specs.declared.Outcome.the-variants.{Done, Refused}
 use Rattle.refusals.specs.Rules.{Rule, _unless_, fault, unless-refused}
@@ -27,11 +28,18 @@ use Rattle.words.specs.Answers.{encodeFault, encodeAnswer, encodeAfter, message
 use Rattle.gears.specs.Rows.{isRow, rowBits, rowMessage, gearIn, lampIn, isRowMessage, rowOf}
 use Rattle.nearest.specs.SameRepair.{same-repairable, same-repaired}
 use Rattle.nearest.specs.Repair.{distance, repairedOf}
+use Rattle.nearest.specs.Turned.{turned}
 use Rattle.repair.specs.declared.Recovery.the-variants.{Repaired, Refused as NotRepaired}
 use Rattle.repair.specs.Answers.{wordRules, turnedCount, repairFault, repairAnswer, repairAfter}
+use Rattle.rows.specs.declared.Reading.{Reading}
 use Rattle.rows.specs.declared.Reading.the-variants.{Read, Refused as NotRead}
-use Rattle.rows.specs.Answers.{writeRules, rowWord, carried, readRules, rowRead}
+use Rattle.rows.specs.Answers.{writeRules, rowWord, carried, readRules, rowRead, readingAnswer}
 use Rattle.rows.specs.Answers.{writeFault, writeAnswer, writeAfter, readFault, readAnswer, readAfter}
+use Rattle.simulation.specs.declared.Verdict.{Verdict}
+use Rattle.simulation.specs.Steps.{Steps, stepCount, gearAt, lampAt, marksAt, stepsRules, isMade}
+use Rattle.simulation.specs.Ride.{verdictOf, isRight, isHeld, isWrong, isMarked, stepWord, stepVerdict, verdictAt}
+use Rattle.simulation.specs.Ride.{verdictCount, countsUpTo, rideCounts}
+use Rattle.simulation.specs.Answers.{rideLengths, marksLong, startRules, rideRules, rideFault, rideAnswer, startFault, rideAfter}
 use Rattle.demands.specs.Alike.{Alike}
 
 -- ---- the calls' own rules and values come from the matrix
@@ -72,6 +80,37 @@ module _ {c₁ c₂ : Parameters} {h₁ cols₁ h₂ cols₂ : List ℕ} (M : Sa
   unfolding rowRead
   row-read received =
       ap₂ (λ (l : List ℕ) (n : ℕ). Read (rowOf (gearIn l) (lampIn l)) n) (same-carried received) (turned-count received)
+
+  reading : (received : List ℕ) → readingAnswer c₁ h₁ cols₁ received ≡ readingAnswer c₂ h₂ cols₂ received
+  unfolding readingAnswer
+  reading received =
+      ap₂ (λ (rules : List Rule) (value : Reading). unless-refused (fault rules) NotRead value) (read-rules received) (row-read received)
+
+  start-rules : startRules c₁ h₁ cols₁ ≡ startRules c₂ h₂ cols₂
+  unfolding startRules
+  start-rules = ap (λ (k : ℕ). (12 unless leb rowBits k) ∷ []) (same-dimension M)
+
+  ride-rules : (σ : Steps) → rideRules c₁ h₁ cols₁ σ ≡ rideRules c₂ h₂ cols₂ σ
+  unfolding rideRules
+  ride-rules σ = ap₂ (λ (rules : List Rule) (n : ℕ). rules ++ stepsRules n σ (stepCount σ)) start-rules (M .columns)
+
+  verdict : (σ : Steps) (i : ℕ) → verdictAt c₁ h₁ cols₁ σ i ≡ verdictAt c₂ h₂ cols₂ σ i
+  unfolding verdictAt stepVerdict stepWord
+  verdict σ i =
+      ap (verdictOf (gearAt σ i) (lampAt σ i))
+      (reading (turned (length cols₁) (isMarked (marksAt (length cols₁) σ i)) (rowWord c₁ h₁ cols₁ (gearAt σ i) (lampAt σ i)))
+      ∙ ap₂ (λ (n : ℕ) (w : List ℕ). readingAnswer c₂ h₂ cols₂ (turned n (isMarked (marksAt n σ i)) w)) (M .columns)
+      (row-word (gearAt σ i) (lampAt σ i)))
+
+  ride-counts : (σ : Steps) → rideCounts c₁ h₁ cols₁ σ ≡ rideCounts c₂ h₂ cols₂ σ
+  unfolding rideCounts countsUpTo verdictCount
+  ride-counts σ = ap₂ counted (M .columns) (fun-ext (verdict σ))
+    where
+      ended : (Verdict → Bool) → ℕ → (ℕ → Verdict) → ℕ
+      ended p n v = count (stepCount σ) (λ i. isMade n σ i && p (v i))
+
+      counted : ℕ → (ℕ → Verdict) → List ℕ
+      counted n v = count (stepCount σ) (isMade n σ) ∷ ended isRight n v ∷ ended isHeld n v ∷ ended isWrong n v ∷ []
 
 -- ---- the calls
 
@@ -135,7 +174,7 @@ module _ {c₁ c₂ : Parameters} {h₁ h₂ : List ℕ} {s₁ s₂ : Setting} (
 
   pub answered-alike : Alike c₁ h₁ s₁ c₂ h₂ s₂
   unfolding rolesAnswer rolesAfter syndromeAnswer syndromeAfter encodeFault encodeAnswer encodeAfter messageFault messageAnswer messageAfter
-      repairFault repairAnswer repairAfter writeFault writeAnswer writeAfter readFault readAnswer readAfter
+      repairFault repairAnswer repairAfter writeFault writeAnswer writeAfter readFault readAnswer readAfter rideFault rideAnswer startFault rideAfter
   answered-alike =
       record {
         roles = λ out. (
@@ -179,4 +218,8 @@ module _ {c₁ c₂ : Parameters} {h₁ h₂ : List ℕ} {s₁ s₂ : Setting} (
               call true words own NotRead (λ c h cols. rowRead c h cols received) same-own (λ M. row-read M received),
               call true words own (λ k. repaired) (λ c h cols. repairedOf c h cols received) same-own (λ M. same-repaired M received),
             );
+        ride = λ σ counts. (
+          call (rideLengths σ counts) (marksLong σ) (λ c h cols. rideRules c h cols σ) Refused (λ c h cols. Done) (λ M. ride-rules M σ) (λ M. refl),
+          call (rideLengths σ counts) (marksLong σ) startRules (λ k. counts) (λ c h cols. rideCounts c h cols σ) start-rules (λ M. ride-counts M σ),
+        );
       }

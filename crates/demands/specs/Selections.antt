@@ -32,8 +32,9 @@ use Rattle.repair.specs.declared.Recovery.the-variants.{Refused as NotRepaired}
 use Rattle.repair.specs.Answers.{wordRules, repairFault, repairAnswer}
 use Rattle.rows.specs.declared.Reading.the-variants.{Refused as NotRead}
 use Rattle.rows.specs.Answers.{writeRules, readRules, rowRead, writeFault, writeAnswer, readFault, readAnswer}
+use Rattle.rows.specs.Laws.{read-apart, same-reading}
 use Rattle.demands.specs.Lowest.{upTo, fault-up-to}
-use Rattle.demands.specs.Outcomes.{repaired-apart, same-recovery, read-apart, same-reading}
+use Rattle.demands.specs.Outcomes.{repaired-apart, same-recovery}
 
 -- "a block number of N/t or more, or one named twice"
 pub data NoSuchBlock (c : Parameters) (blocks : List ℕ) : Type 0 where

@@ -3,7 +3,7 @@ ghost use mathlib.Core.Path.{_≡_};
 ghost use Prim.Native.Nat.{_≤_, _<_};
 ghost use lib.ListN.{length};
 ghost use Rattle.algebra.specs.Lists.{entryOf};
-ghost use Rattle.gears.specs.Rows.{isRow, rowBits, rowBit, rowMessage, gearIn, lampIn, furtherZero, isRowMessage, lampOf, rowOf};
+ghost use Rattle.gears.specs.Rows.{isRow, rowBits, rowBit, rowMessage, gearIn, lampIn, furtherZero, isRowMessage, lampOf, lampNumber, rowOf};
 
 // 01 numbers the lamps 0, 1 and 2.
 pub enum Lamp {
@@ -110,6 +110,17 @@ fn lamp_of(number: u32) -> Lamp
         0 => Lamp::Dark,
         1 => Lamp::Green,
         _ => Lamp::Amber,
+    }
+}
+
+// The number of a lamp.
+pub fn lamp_number(lamp: Lamp) -> u32
+    ensures { λ r. ⌜ (r ≡ lampNumber lamp) × (r < 3) ⌝ }
+{
+    match lamp {
+        Lamp::Dark => 0,
+        Lamp::Green => 1,
+        Lamp::Amber => 2,
     }
 }
 

@@ -28,7 +28,8 @@ use Rattle.nearest.specs.Errors.{z, L, errorPlace, F, in-support, apart,
 use Rattle.nearest.specs.Places.{place-is, place-of}
 use Rattle.nearest.specs.Repair.{differs, distance, isNear, isRepairable, repairedOf}
 use Rattle.nearest.specs.Search.{repaired-bits, near-is, near, repairable, repaired-near}
-use Rattle.nearest.specs.Turned.{turned, length-turned, turned-bits, turned-distance, turned-is}
+use Rattle.nearest.specs.Turned.{turned}
+use Rattle.nearest.specs.TurnedLaws.{length-turned, turned-bits, turned-distance, turned-is}
 
 -- the support of place j is a root of the pair
 unfoldable pub isError : Parameters → List ℕ → List ℕ → Halves ℕ → ℕ → Bool

@@ -9,3 +9,4 @@ pub mod Places
 pub mod Repair
 pub mod Search
 pub mod Turned
+pub mod TurnedLaws

@@ -24,7 +24,7 @@ pub const REPEATED: u32 = 6;
 // t is no number of roots: 01's "rows".
 pub const ROOT_COUNT: u32 = 7;
 
-// A byte of a word or a message is neither 0 nor 1.
+// A byte of a word, a message or a step's marks is neither 0 nor 1.
 pub const BIT: u32 = 8;
 
 // A block that has no inverse: 01's "dead block".
@@ -51,7 +51,7 @@ pub const SHIFT: u32 = 15;
 // A text that is no formula, or that names a block that is not lent.
 pub const NO_FORMULA: u32 = 16;
 
-// The end of a call whose result stands in lent buffers: they are written only where it is Done.
+// The end of a call whose result stands in lent buffers: they are written only where it is Done, but for the counts of a ride.
 pub enum Outcome {
     Done,
     Refused(u32),

@@ -19,7 +19,7 @@ use Rattle.nearest.specs.Demand.{near-unique, repaired-code-word, repaired-with
 use Rattle.nearest.specs.Found.{isError, repaired-found, not-found}
 use Rattle.nearest.specs.Repair.{distance, isRepairable, repairedOf}
 use Rattle.nearest.specs.Search.{near, repairable, distance-self}
-use Rattle.nearest.specs.Turned.{length-turned, turned-bits}
+use Rattle.nearest.specs.TurnedLaws.{length-turned, turned-bits}
 use Rattle.repair.specs.declared.Recovery.{Recovery}
 use Rattle.repair.specs.declared.Recovery.the-variants.{Repaired, Refused}
 use Rattle.repair.specs.Answers.{wordRules, turnedCount}

@@ -3,7 +3,7 @@ use crate::Recovery;
 use crate::begun;
 use basis::Column;
 use columns::Lent;
-use columns::is_word_length;
+use columns::is_parts_length;
 use columns::selected_code_inverses;
 use field::Elem;
 use params::Parameters;
@@ -29,8 +29,8 @@ pub fn repair(
         ≡ repairAfter c (now (h .entry)) (selection (now (blocks .entry)) (now (shifts .entry))) (now (received .entry)) (now (repaired .entry)) ⌝ }
 {
     let count = blocks.len();
-    let words = is_word_length(received.len(), count, c.t)
-        & is_word_length(repaired.len(), count, c.t);
+    let words = is_parts_length(received.len(), count, c.t)
+        & is_parts_length(repaired.len(), count, c.t);
     let lent = Lent {
         others: true,
         words,

@@ -9,25 +9,30 @@ use borrow.Author.Tests.{le-leb, lt-leb}
 use lib.Dec.{leb}
 use lib.ListN.{length, take, replicate}
 use lib.Seq.{length-take-le}
+use Rattle.algebra.specs.Lists.{entryOf}
+use Rattle.algebra.specs.Places.{chosen}
+use Rattle.refusals.specs.Answered.{refused-leaves}
 use Rattle.refusals.specs.Ending.{Ended, ended-refused, ended-done}
 use Rattle.refusals.specs.Rules.{_unless_, fault, unless-refused}
 use Rattle.refusals.specs.RuleLaws.{fault-here, fault-past, fault-none, fault-first, fault-rest, refuse, accept}
 use Rattle.slices.specs.Lengths.{longest}
 use Rattle.params.specs.declared.Parameters.{Parameters}
-use Rattle.basis.specs.Table.{Carried}
-use Rattle.messages.specs.CodeBasis.{CodeBasis}
+use Rattle.basis.specs.Table.{freeAt, Carried}
+use Rattle.messages.specs.CodeBasis.{MessageColumns, CodeBasis, message-is}
 use Rattle.parity.specs.Columns.{dimension, messageOf, encodingOf}
 use Rattle.nearest.specs.Repair.{repairedOf}
 use Rattle.repair.specs.declared.Recovery.{Recovery}
 use Rattle.repair.specs.declared.Recovery.the-variants.{Repaired, Refused as NotRepaired}
 use Rattle.repair.specs.Answers.{wordRules, turnedCount}
 use Rattle.repair.specs.Decoding.{wordAnswer, Decoded}
+use Rattle.gears.specs.declared.Row.{Row}
 use Rattle.gears.specs.Rows.{isRow, rowBits, rowMessage, gearIn, lampIn, isRowMessage, rowOf}
 use Rattle.gears.specs.Messages.{length-message, message-bits}
 use Rattle.rows.specs.declared.Reading.{Reading}
 use Rattle.rows.specs.declared.Reading.the-variants.{Read, Refused as NotRead}
-use Rattle.rows.specs.Answers.{writeRules, rowWord, carried, readRules, rowRead}
-use Rattle.rows.specs.Parts.{readingAnswer, readingAfter, refusalOf, carriedAnswer, carriedAfter}
+use Rattle.rows.specs.Answers.{writeRules, rowWord, carried, readRules, rowRead, readingAnswer, readingAfter}
+use Rattle.rows.specs.Laws.{read-is, read-apart}
+use Rattle.rows.specs.Parts.{refusalOf, ReadInto}
 
 -- ---- the parts of the arrays that are lent
 
@@ -57,10 +62,10 @@ module _ {answer : Recovery} (turned : ℕ) where
 -- ---- the rules, where k is the number of message columns
 
 module _ (c : Parameters) (h cols : List ℕ) {k : ℕ} (k-is : k ≡ dimension c h cols) where
-  narrow : k < rowBits → leb rowBits (dimension c h cols) ≡ false
+  pub narrow : k < rowBits → leb rowBits (dimension c h cols) ≡ false
   narrow l = lt-leb rowBits (dimension c h cols) (subst (λ (i : ℕ). i < rowBits) k-is l)
 
-  wide : rowBits ≤ k → leb rowBits (dimension c h cols) ≡ true
+  pub wide : rowBits ≤ k → leb rowBits (dimension c h cols) ≡ true
   wide l = le-leb rowBits (dimension c h cols) (subst (λ (i : ℕ). rowBits ≤ i) k-is l)
 
   module _ (gear lamp : ℕ) (old : List ℕ) where
@@ -80,13 +85,11 @@ module _ (c : Parameters) (h cols : List ℕ) {k : ℕ} (k-is : k ≡ dimension 
     unfolding writeRules
     write-fits l e w = ended-done {k = 0} (writeRules c h cols gear lamp) old _ (sym (fault-none _ (wide l, (e, tt)))) refl w
 
-  module _ (received old : List ℕ) where
-    abbrev Ends : Reading → List ℕ → Type 0
-    Ends answer new = (answer ≡ readingAnswer c h cols received) × (new ≡ readingAfter c h cols received old)
-
-    pub read-narrow : k < rowBits → Ends (NotRead 12) old
+  module _ (received : List ℕ) where
+    pub read-narrow : k < rowBits → (old : List ℕ)
+        → (NotRead 12 ≡ readingAnswer c h cols received) × (old ≡ readingAfter c h cols received old)
     unfolding readingAnswer readingAfter readRules
-    read-narrow l =
+    read-narrow l old =
         let f = sym (fault-here 12 _ (narrow l)) in
         (refuse {k = 12} NotRead _ f (λ q. omega arith), refuse {k = 12} (λ i. old) _ f (λ q. omega arith))
 
@@ -98,53 +101,74 @@ module _ (c : Parameters) (h cols : List ℕ) {k : ℕ} (k-is : k ≡ dimension 
       past-wide = fault-past 12 _ (wide l) refl
 
       module _ {answer : Recovery} {word : List ℕ} (D : Decoded c h cols received answer word) where
+        abbrev Ends : Reading → Type 0
+        Ends reading = ReadInto c h cols received reading word
+
+        due-refused : {number : ℕ} → number ≡ fault (readRules c h cols received) → number ≢ 0 → Ends (NotRead number)
+        unfolding readingAnswer
+        due-refused f broken = record { answer = refuse NotRead _ f broken; repaired = λ z. absurd (broken (f ∙ z)) }
+
         -- repair's refusal is handed back
-        pub not-repaired : {number : ℕ} → answer ≡ NotRepaired number → Ends (NotRead (refusalOf answer)) old
-        unfolding readingAnswer readingAfter wordAnswer
-        not-repaired is =
+        pub not-repaired : {number given : ℕ} → answer ≡ NotRepaired number → given ≡ refusalOf answer → Ends (NotRead given)
+        unfolding wordAnswer
+        not-repaired is e =
             let (due, broken) = refusal-is (turnedCount c h cols received) (fault (wordRules c h cols received)) (D .answer-is) is in
-            let f = due ∙ sym (past-wide ∙ fault-first (wordRules c h cols received) _ broken) in
-            (refuse NotRead _ f (λ z. broken (sym due ∙ z)), refuse (λ i. old) _ f (λ z. broken (sym due ∙ z)))
+            due-refused (e ∙ due ∙ sym (past-wide ∙ fault-first (wordRules c h cols received) _ broken)) (λ z. broken (sym due ∙ sym e ∙ z))
 
         -- what a repaired word carries decides
-        module _ {turned : ℕ} (is : answer ≡ Repaired turned) where
-          repaired : (fault (wordRules c h cols received) ≡ 0) × (turned ≡ turnedCount c h cols received)
+        module _ {turned : ℕ} (is : answer ≡ Repaired turned) {message : List ℕ} (said : message ≡ messageOf c h cols word) where
+          passes : (fault (wordRules c h cols received) ≡ 0) × (turned ≡ turnedCount c h cols received)
           unfolding wordAnswer
-          repaired = repair-is (turnedCount c h cols received) (fault (wordRules c h cols received)) (D .answer-is) is
+          passes = repair-is (turnedCount c h cols received) (fault (wordRules c h cols received)) (D .answer-is) is
 
-          pub row-decides : {message : List ℕ} {reading : Reading} {new : List ℕ} → message ≡ messageOf c h cols word
-              → reading ≡ carriedAnswer message turned → new ≡ carriedAfter message word old → Ends reading new
-          unfolding readingAnswer readingAfter rowRead carried carriedAnswer carriedAfter wordRules
-          row-decides {message} said read kept =
-              let word-is : word ≡ repairedOf c h cols received = D .word-is (repaired .0) in
-              let same : message ≡ carried c h cols received = said ∙ ap (messageOf c h cols) word-is in
-              let f =
-              ap (λ (x : List ℕ). fault ((11 unless isRowMessage x) ∷ [])) same
-              ∙ sym (past-wide ∙ fault-rest (wordRules c h cols received) _ tt (repaired .0)) in (
-                read
-                    ∙ ap₂ (λ (i : ℕ) (v : Reading). unless-refused i NotRead v) f
-                    (ap₂ (λ (x : List ℕ) (t : ℕ). Read (rowOf (gearIn x) (lampIn x)) t) same (repaired .1)),
-                kept ∙ ap₂ (λ (i : ℕ) (v : List ℕ). unless-refused i (λ j. old) v) f word-is,
-              )
+          word-is : word ≡ repairedOf c h cols received
+          word-is = D .word-is (passes .0)
 
--- ---- a word that carries a message
+          said-is : message ≡ carried c h cols received
+          unfolding carried
+          said-is = said ∙ ap (messageOf c h cols) word-is
 
-module _ (message word old : List ℕ) (turned : ℕ) where
-  pub no-row-ends : isRowMessage message ≡ false → (NotRead 11 ≡ carriedAnswer message turned) × (old ≡ carriedAfter message word old)
-  unfolding carriedAnswer carriedAfter
-  no-row-ends e =
-      let f = sym (fault-here 11 [] e) in
-      (refuse {k = 11} NotRead _ f (λ q. omega arith), refuse {k = 11} (λ i. old) _ f (λ q. omega arith))
+          last-rule : fault ((11 unless isRowMessage message) ∷ []) ≡ fault (readRules c h cols received)
+          unfolding wordRules
+          last-rule =
+              ap (λ (x : List ℕ). fault ((11 unless isRowMessage x) ∷ [])) said-is
+              ∙ sym (past-wide ∙ fault-rest (wordRules c h cols received) _ tt (passes .0))
 
-  pub row-ends : isRowMessage message ≡ true
-      → (Read (rowOf (gearIn message) (lampIn message)) turned ≡ carriedAnswer message turned) × (word ≡ carriedAfter message word old)
-  unfolding carriedAnswer carriedAfter
-  row-ends e =
-      let f = sym (fault-none ((11 unless isRowMessage message) ∷ []) (e, tt)) in
-      (accept {k = 0} NotRead _ f refl, accept {k = 0} (λ i. old) _ f refl)
+          pub no-row : isRowMessage message ≡ false → Ends (NotRead 11)
+          no-row e = due-refused (sym (fault-here 11 [] e) ∙ last-rule) (λ q. omega arith)
 
--- ---- a row's message at the free places, completed, is the row's word
+          pub row-found : isRowMessage message ≡ true → {row : Row} → row ≡ rowOf (gearIn message) (lampIn message) → Ends (Read row turned)
+          unfolding readingAnswer rowRead
+          row-found e row-is =
+              record {
+                answer =
+                    ap₂ Read (row-is ∙ ap (λ (x : List ℕ). rowOf (gearIn x) (lampIn x)) said-is) (passes .1)
+                    ∙ accept {k = 0} NotRead _ (sym (fault-none ((11 unless isRowMessage message) ∷ []) (e, tt)) ∙ last-rule) refl;
+                repaired = λ z. word-is;
+              }
 
+-- ---- what is copied of the word: nothing where the answer is a refusal, and else the repaired word
+
+module _ {c : Parameters} {h cols received word : List ℕ} where
+  pub row-copied : {row : Row} {turned : ℕ} → ReadInto c h cols received (Read row turned) word → (old : List ℕ) {new : List ℕ} → new ≡ word
+      → new ≡ readingAfter c h cols received old
+  unfolding readingAnswer readingAfter
+  row-copied R old e =
+      let z = read-is (fault (readRules c h cols received)) (sym (R .answer)) .0 in
+      e ∙ R .repaired z ∙ accept {k = 0} (λ k. old) _ (sym z) refl
+
+  pub refused-left : {number : ℕ} → ReadInto c h cols received (NotRead number) word → (old : List ℕ) → old ≡ readingAfter c h cols received old
+  unfolding readingAnswer readingAfter rowRead
+  refused-left R old = sym (refused-leaves NotRead _ (read-apart _ _) (fault (readRules c h cols received)) old _ (sym (R .answer)))
+
+-- ---- a word and the message at its free places
+
+-- what is taken out of these is the message that the word carries
+pub taken-out : {c : Parameters} {h cols leads : List ℕ} {k : ℕ} → MessageColumns c h cols leads k → {message : List ℕ} (word : List ℕ)
+    → message ≡ chosen (length word) (freeAt leads) (entryOf word) → length word ≡ length cols → message ≡ messageOf c h cols word
+taken-out {leads = leads} M word e long = e ∙ ap (λ (i : ℕ). chosen i (freeAt leads) (entryOf word)) long ∙ sym (message-is M word)
+
+-- a row's message at these, completed, is the row's word
 pub row-carried : {c : Parameters} {h cols rows leads : List ℕ} {k : ℕ} → CodeBasis c h cols rows leads k
     → (gear lamp : ℕ) {long n : ℕ} {new : List ℕ}
     → long ≡ k → n ≡ length cols → length new ≡ n → Carried n rows leads (rowMessage long gear lamp) new → new ≡ rowWord c h cols gear lamp

@@ -39,6 +39,13 @@ module _ (c : Parameters) (h cols : List ℕ) where
     unfoldable pub rowRead : Reading
     rowRead = Read (rowOf (gearIn carried) (lampIn carried)) (turnedCount c h cols received)
 
+    -- what reading answers, and what it leaves in the second buffer
+    unfoldable pub readingAnswer : Reading
+    readingAnswer = unless-refused (fault readRules) NotRead rowRead
+
+    unfoldable pub readingAfter : List ℕ → List ℕ
+    readingAfter repaired = unless-refused (fault readRules) (λ k. repaired) (repairedOf c h cols received)
+
 -- ---- the calls, for the whole code or for a selection of its blocks
 
 module _ (c : Parameters) (h : List ℕ) (s : Setting) where

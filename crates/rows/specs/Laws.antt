@@ -1,6 +1,7 @@
 -- What is written is read again, also with up to t bits turned; and what is read is an allowed row, the one that the repaired word carries.
 --
 -- Each law is shown for an accepted code and any list of its columns first, and the calls' from it, at any setting.
+use mathlib.Core.Logic.{_≢_}
 use mathlib.Core.Path.{_≡_, refl, sym, ap, ap₂, _∙_, subst, subst₂}
 use mathlib.Core.Bool.{Bool, true, false, cond, _&&_}
 use mathlib.Core.List.{List, [], _∷_, _++_}
@@ -36,17 +37,25 @@ use Rattle.gears.specs.Rows.{isRow, rowBits, rowMessage, gearIn, lampIn, furthe
 use Rattle.gears.specs.Messages.{row-lamp, lamp-number, length-message, message-bits, message-gear, message-lamp, message-is-row, message-only}
 use Rattle.rows.specs.declared.Reading.{Reading}
 use Rattle.rows.specs.declared.Reading.the-variants.{Read, Refused as NotRead}
-use Rattle.rows.specs.Answers.{writeRules, rowWord, carried, readRules, rowRead}
-use Rattle.rows.specs.Parts.{readingAnswer, readingAfter}
+use Rattle.rows.specs.Answers.{writeRules, rowWord, carried, readRules, rowRead, readingAnswer, readingAfter}
 use Rattle.rows.specs.Answers.{writeFault, writeAnswer, writeAfter, readFault, readAnswer, readAfter}
 
 -- ---- rules
 
 -- a row was read only where no rule refuses
-read-is : (k : ℕ) {value : Reading} {row : Row} {turned : ℕ} → unless-refused k NotRead value ≡ Read row turned → (k ≡ 0) × (value ≡ Read row turned)
+pub read-is : (k : ℕ) {value : Reading} {row : Row} {turned : ℕ} → unless-refused k NotRead value ≡ Read row turned
+    → (k ≡ 0) × (value ≡ Read row turned)
 unfolding unless-refused
 read-is zero e = (refl, e)
 read-is (suc k) e = (cc, cc)
+
+-- a row is no refusal, and refusals tell their numbers
+pub read-apart : (row : Row) (n k : ℕ) → NotRead k ≢ Read row n
+read-apart row n k e =
+    let z : _≡_ {A = ℕ} 0 1 = cc in absurd (omega arith)
+
+pub same-reading : (i j : ℕ) → NotRead i ≡ NotRead j → i ≡ j
+same-reading i j e = cc
 
 -- ---- words
 
@@ -191,7 +200,7 @@ module _ {c : Parameters} {h : List ℕ} (A : Accepted c h) (s : Setting) (F : F
       setting-leaves A s F refl (both-hold (eq-eqb (length received) (places c s) long) (eq-eqb (length repaired) (places c s) lent))
       (readRules c h (columnsOf c s) received)
 
-  answer-is : readAnswer c h s received repaired ≡ readingAnswer c h (columnsOf c s) received
+  pub answer-is : readAnswer c h s received repaired ≡ readingAnswer c h (columnsOf c s) received
   unfolding readAnswer readingAnswer
   answer-is = ap (λ (i : ℕ). unless-refused i NotRead (rowRead c h (columnsOf c s) received)) read-rules
 
@@ -220,7 +229,7 @@ module _ {c : Parameters} {h : List ℕ} (A : Accepted c h) (s : Setting) (F : F
   unfolding writeAnswer
   row-written = given Refused Done write-none
 
-  written-is : written ≡ rowWord c h (columnsOf c s) gear lamp
+  pub written-is : written ≡ rowWord c h (columnsOf c s) gear lamp
   unfolding writeAfter
   written-is = given (λ i. word) (rowWord c h (columnsOf c s) gear lamp) write-none
 
@@ -246,7 +255,7 @@ module _ {c : Parameters} {h : List ℕ} (A : Accepted c h) (s : Setting) (F : F
     turned-repaired =
         after-is A s F received repaired (bits .long) lent′ ∙ near-after A S wide gear lamp allowed bits′ near′ repaired ∙ sym written-is
 
-  written-bits : IsBits (places c s) written
+  pub written-bits : IsBits (places c s) written
   written-bits =
       subst₂ IsBits (length-columns c s) (sym written-is) (row-word A S wide gear lamp allowed .0 .bits)
 
@@ -284,6 +293,16 @@ module _ (c : Parameters) (h : List ℕ) (s : Setting) (received repaired : List
   -- what is read is an allowed row
   pub read-allowed : isRow (row .gear) (lampNumber (row .lamp)) ≡ true
   read-allowed = reading-allowed c h (columnsOf c s) received reading
+
+  -- with the number of places in which the word received differs from what the second buffer then holds
+  pub read-counted : turned ≡ distance (places c s) received (readAfter c h s received repaired)
+  unfolding turnedCount readingAnswer readingAfter
+  read-counted =
+      let (A, F, (r, w)) = code in
+      let none = read-is (fault (readRules c h (columnsOf c s) received)) reading .0 in
+      said-is c h (columnsOf c s) received reading .1
+      ∙ ap₂ (λ (n : ℕ) (x : List ℕ). distance n received x) (length-columns c s)
+      (sym (after-is A s F received repaired r w ∙ given (λ i. repaired) (repairedOf c h (columnsOf c s) received) none))
 
   -- and at most t bits were repaired, of an accepted code
   pub read-within : Accepted c h × (turned ≤ c .t)

@@ -1,33 +1,21 @@
 -- What the parts of the calls hand to one another.
-use mathlib.Core.List.{List, [], _∷_}
+use mathlib.Core.Path.{_≡_}
+use mathlib.Core.List.{List}
 use Prim.Native.Nat.{ℕ}
-use Rattle.refusals.specs.Rules.{_unless_, fault, unless-refused}
+use Rattle.refusals.specs.Rules.{fault}
 use Rattle.params.specs.declared.Parameters.{Parameters}
 use Rattle.nearest.specs.Repair.{repairedOf}
 use Rattle.repair.specs.declared.Recovery.{Recovery}
 use Rattle.repair.specs.declared.Recovery.the-variants.{Repaired, Refused}
-use Rattle.gears.specs.Rows.{gearIn, lampIn, isRowMessage, rowOf}
 use Rattle.rows.specs.declared.Reading.{Reading}
-use Rattle.rows.specs.declared.Reading.the-variants.{Read, Refused as NotRead}
-use Rattle.rows.specs.Answers.{readRules, rowRead}
+use Rattle.rows.specs.Answers.{readRules, readingAnswer}
 
 -- the number of a repair that is refused, and 0 of one that succeeded
 unfoldable pub refusalOf : Recovery → ℕ
 refusalOf (Repaired turned) = 0
 refusalOf (Refused number) = number
 
--- what a word that carries the message ends with, where `turned` of its bits were repaired
-unfoldable pub carriedAnswer : List ℕ → ℕ → Reading
-carriedAnswer message turned =
-    unless-refused (fault ((11 unless isRowMessage message) ∷ [])) NotRead (Read (rowOf (gearIn message) (lampIn message)) turned)
-
-unfoldable pub carriedAfter : List ℕ → List ℕ → List ℕ → List ℕ
-carriedAfter message word repaired = unless-refused (fault ((11 unless isRowMessage message) ∷ [])) (λ k. repaired) word
-
--- what reading answers and leaves for a list of columns
-module _ (c : Parameters) (h cols received : List ℕ) where
-  unfoldable pub readingAnswer : Reading
-  readingAnswer = unless-refused (fault (readRules c h cols received)) NotRead (rowRead c h cols received)
-
-  unfoldable pub readingAfter : List ℕ → List ℕ
-  readingAfter repaired = unless-refused (fault (readRules c h cols received)) (λ k. repaired) (repairedOf c h cols received)
+-- what reading answers, and in the buffer `word` the repaired word, where a row was read
+pub record ReadInto (c : Parameters) (h cols received : List ℕ) (reading : Reading) (word : List ℕ) : Type 0 where
+  pub answer : reading ≡ readingAnswer c h cols received
+  pub repaired : fault (readRules c h cols received) ≡ 0 → word ≡ repairedOf c h cols received

@@ -1,7 +1,9 @@
 // Gear rows: a gear and a lamp written as a code word, and read from a word received, which is repaired first.
 //
 // The calls take any input: those of this file for the whole code, those of `selection` for a selection of its blocks. Both find their columns and
-// go on in `begun`. What is done for an accepted code and any of its columns stands in `internal`.
+// go on in `begun`. What is done for an accepted code and any of its columns stands in `internal`, and what is done once the basis of the
+// code is known in `based`.
+pub mod based;
 mod begun;
 mod internal;
 pub mod selection;

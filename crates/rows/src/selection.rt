@@ -3,7 +3,7 @@ use crate::Reading;
 use crate::begun;
 use basis::Column;
 use columns::Lent;
-use columns::is_word_length;
+use columns::is_parts_length;
 use columns::selected_code;
 use columns::selected_code_inverses;
 use field::Elem;
@@ -30,7 +30,7 @@ pub fn write_row(
 {
     let lent = Lent {
         others: true,
-        words: is_word_length(word.len(), blocks.len(), c.t),
+        words: is_parts_length(word.len(), blocks.len(), c.t),
     };
     let mut columns: [Column; LONGEST] = [0; LONGEST];
     let found = selected_code(c, h, blocks, shifts, lent, &mut columns);
@@ -54,8 +54,8 @@ pub fn read_row(
         ≡ readAfter c (now (h .entry)) (selection (now (blocks .entry)) (now (shifts .entry))) (now (received .entry)) (now (repaired .entry)) ⌝ }
 {
     let count = blocks.len();
-    let words = is_word_length(received.len(), count, c.t)
-        & is_word_length(repaired.len(), count, c.t);
+    let words = is_parts_length(received.len(), count, c.t)
+        & is_parts_length(repaired.len(), count, c.t);
     let lent = Lent {
         others: true,
         words,

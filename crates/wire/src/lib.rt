@@ -1,15 +1,13 @@
 // Answers as numbers, since no enum crosses into C: the value, or minus the refusal's number.
 use codes::Sameness;
 use field::Answer;
-use gears::Lamp;
+use gears::lamp_number;
 use refusals::Counted;
 use refusals::Outcome;
 use repair::Recovery;
 use rows::Reading;
 use std::num::wrapping_add_u32;
 ghost use mathlib.Core.Path.{_≡_};
-ghost use Prim.Native.Nat.{_<_};
-ghost use Rattle.gears.specs.Rows.{lampNumber};
 ghost use Rattle.wire.specs.Wire.{minus, elementCode, outcomeCode, samenessCode, countedCode, recoveryCode, readingCode};
 
 pub fn element_code(answer: Answer) -> u32
@@ -70,16 +68,6 @@ pub fn reading_code(reading: Reading) -> u32
             wrapping_add_u32(shown, count << 5)
         }
         Reading::Refused(number) => minus(number),
-    }
-}
-
-fn lamp_number(lamp: Lamp) -> u32
-    ensures { λ r. ⌜ (r ≡ lampNumber lamp) × (r < 3) ⌝ }
-{
-    match lamp {
-        Lamp::Dark => 0,
-        Lamp::Green => 1,
-        Lamp::Amber => 2,
     }
 }
 

@@ -2,7 +2,7 @@
 use crate::begun;
 use basis::Column;
 use columns::Lent;
-use columns::is_word_length;
+use columns::is_parts_length;
 use columns::selected_code;
 use field::Elem;
 use params::Parameters;
@@ -21,7 +21,7 @@ pub fn roles(c: Parameters, h: &[Elem], blocks: &[u32], shifts: &[u32], out: &mu
 {
     let lent = Lent {
         others: true,
-        words: is_word_length(out.len(), blocks.len(), c.t),
+        words: is_parts_length(out.len(), blocks.len(), c.t),
     };
     let mut columns: [Column; LONGEST] = [0; LONGEST];
     let found = selected_code(c, h, blocks, shifts, lent, &mut columns);
@@ -44,7 +44,7 @@ pub fn syndrome(
         ⌜ now (out .exit)
         ≡ syndromeAfter c (now (h .entry)) (selection (now (blocks .entry)) (now (shifts .entry))) (now (word .entry)) (now (out .entry)) ⌝ }
 {
-    let words = is_word_length(word.len(), blocks.len(), c.t);
+    let words = is_parts_length(word.len(), blocks.len(), c.t);
     let lent = Lent {
         others: out.len() == c.t as usize,
         words,
@@ -72,7 +72,7 @@ pub fn encode(
 {
     let lent = Lent {
         others: true,
-        words: is_word_length(word.len(), blocks.len(), c.t),
+        words: is_parts_length(word.len(), blocks.len(), c.t),
     };
     let mut columns: [Column; LONGEST] = [0; LONGEST];
     let found = selected_code(c, h, blocks, shifts, lent, &mut columns);
@@ -97,7 +97,7 @@ pub fn message(
 {
     let lent = Lent {
         others: true,
-        words: is_word_length(word.len(), blocks.len(), c.t),
+        words: is_parts_length(word.len(), blocks.len(), c.t),
     };
     let mut columns: [Column; LONGEST] = [0; LONGEST];
     let found = selected_code(c, h, blocks, shifts, lent, &mut columns);

@@ -1,5 +1,6 @@
 //! The second implementation. Each call takes what the product's call takes, with the lengths of the buffers for its
-//! results instead of the buffers, and gives either what is to be written or the refusal's number.
+//! results instead of the buffers, and gives either what is to be written or the refusal's number. A ride gives both
+//! where it ends on the way.
 
 pub mod block;
 pub mod columns;
@@ -7,6 +8,7 @@ pub mod field;
 pub mod formula;
 pub mod params;
 pub mod repair;
+pub mod ride;
 pub mod rows;
 pub mod sheet;
 pub mod words;

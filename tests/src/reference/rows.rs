@@ -33,22 +33,26 @@ pub fn message(row: Row, k: usize) -> Vec<u8> {
 }
 
 /// 12 for a code that is too narrow for rows.
-fn judge_narrow(code: &Code) -> Result<(), u32> {
+pub fn judge_narrow(code: &Code) -> Result<(), u32> {
     if code.k() < BITS {
         return Err(12);
     }
     Ok(())
 }
 
-/// The word of a row.
-pub fn write(setting: &impl Setting, gear: u32, lamp: u32, word_length: usize) -> Result<Vec<u8>, u32> {
-    let code = setting.judge(&[word_length], None)?;
-    judge_narrow(&code)?;
-    let row = Row { gear, lamp };
+/// The word of a row, of a code that has room for rows; 11 for a row that is none.
+pub fn write_word(code: &Code, row: Row) -> Result<Vec<u8>, u32> {
     if !rows().contains(&row) {
         return Err(11);
     }
     Ok(code.encode(&message(row, code.k())))
+}
+
+/// The word of a row: what the setting refuses, then 12, then 11.
+pub fn write(setting: &impl Setting, gear: u32, lamp: u32, word_length: usize) -> Result<Vec<u8>, u32> {
+    let code = setting.judge(&[word_length], None)?;
+    judge_narrow(&code)?;
+    write_word(&code, Row { gear, lamp })
 }
 
 /// What reading a row gives: the row, the repaired word and the count of repaired bits.

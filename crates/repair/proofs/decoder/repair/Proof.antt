@@ -1,9 +1,9 @@
 -- `decoder::repair` meets its contract: the word that was decoded is copied, or nothing is.
-use mathlib.Core.Path.{sym, ap, _∙_, subst}
+use mathlib.Core.Path.{sym, _∙_, subst}
 use native.Mathlib.Omega.{arith}
 use lib.ListN.{length, drop, replicate}
 use lib.Seq.{length-take-le, take-at}
-use Rattle.algebra.specs.ListLaws.{front-long}
+use Rattle.algebra.specs.ListLaws.{front-long, length-front}
 use Rattle.slices.specs.Lengths.{longest}
 use Rattle.parity.specs.Selected.{columns-short}
 use Rattle.repair.specs.declared.Recovery.{Recovery}
@@ -44,7 +44,7 @@ slice-aggregate-copy-bits c =
     let n = length (s .args .cols .now) in
     let call = c .before .before .before .before .decode in
     let long = call .kept .1 .1 .1 .1 .1 .0 ∙ length-take-le n (replicate longest 0) (columns-short (s .pre .0 .0)) in
-    sym (ap length (take-at (call .last .1 .1 .1 .1 .1 .0) (drop n (replicate longest 0)) n long) ∙ long)
+    sym (length-front (call .last .1 .1 .1 .1 .1 .0) (drop n (replicate longest 0)) long)
 
 copy-bits-requires : tie.Need-copy-bits-requires
 copy-bits-requires c κs =
@@ -52,7 +52,7 @@ copy-bits-requires c κs =
     let n = length (s .args .cols .now) in
     let call = c .before .before .before .before .before .decode in
     let long = call .kept .1 .1 .1 .1 .1 .0 ∙ length-take-le n (replicate longest 0) (columns-short (s .pre .0 .0)) in
-    s .pre .1 .1 ∙ sym (ap length (take-at (call .last .1 .1 .1 .1 .1 .0) (drop n (replicate longest 0)) n long) ∙ long)
+    s .pre .1 .1 ∙ sym (length-front (call .last .1 .1 .1 .1 .1 .0) (drop n (replicate longest 0)) long)
 
 enum-told-2 : tie.Need-enum-told-2
 enum-told-2 c = search needs

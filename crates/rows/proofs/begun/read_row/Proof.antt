@@ -7,8 +7,7 @@ use Rattle.refusals.specs.Rules.{Rule}
 use Rattle.columns.specs.BegunLaws.{begun-refuses, begun-places, begun-accepted, begun-columns, begun-long, begun-passes}
 use Rattle.nearest.specs.Repair.{repairedOf}
 use Rattle.rows.specs.declared.Reading.the-variants.{Refused}
-use Rattle.rows.specs.Answers.{readRules, rowRead, readFault, readAnswer, readAfter}
-use Rattle.rows.specs.Parts.{readingAnswer, readingAfter}
+use Rattle.rows.specs.Answers.{readRules, rowRead, readingAnswer, readingAfter, readFault, readAnswer, readAfter}
 use borrow.Author.Needs.{needs}
 use Rattle.rows.proofs.begun.read_row.Statement.{statement}
 use Rattle.rows.proofs.begun.read_row.Tie as tie

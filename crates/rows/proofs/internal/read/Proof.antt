@@ -1,21 +1,17 @@
--- `internal::read` meets its contract: 12, the repair's refusal, or what the repaired word carries.
-use mathlib.Core.Path.{sym, ap, ap₂, _∙_, subst}
-use mathlib.Core.List.{List}
+-- `internal::read` meets its contract: 12, or what is read with the message columns, and then the repaired word is copied, or nothing is.
+use mathlib.Core.Path.{sym, _∙_, subst}
 use Prim.Native.Nat.{ℕ, _≤_}
 use native.Mathlib.Nat.{le-trans}
 use native.Mathlib.Omega.{arith}
 use lib.ListN.{length, drop}
 use lib.Seq.{take-at}
-use Rattle.algebra.specs.Lists.{entryOf}
-use Rattle.algebra.specs.ListLaws.{front-long}
-use Rattle.algebra.specs.Places.{chosen}
-use Rattle.basis.specs.Table.{freeAt, freeCount}
-use Rattle.messages.specs.CodeBasis.{counted, fewer, message-is}
+use Rattle.algebra.specs.ListLaws.{front-long, length-front}
+use Rattle.messages.specs.CodeBasis.{MessageColumns, fewer}
 use Rattle.parity.specs.Selected.{columns-short}
 use Rattle.gears.specs.Rows.{rowBits}
-use Rattle.rows.specs.declared.Reading.the-variants.{Refused}
-use Rattle.rows.specs.Parts.{carriedAnswer, carriedAfter}
-use Rattle.rows.proofs.Ending.{zeros, length-part, read-narrow, not-repaired, row-decides}
+use Rattle.rows.specs.declared.Reading.{Reading}
+use Rattle.rows.specs.Parts.{ReadInto}
+use Rattle.rows.proofs.Ending.{zeros, length-part, read-narrow, row-copied, refused-left}
 use borrow.Author.Needs.{needs}
 use Rattle.rows.proofs.internal.read.Statement.{statement}
 use Rattle.rows.proofs.internal.read.Tie as tie
@@ -30,123 +26,100 @@ message-columns-requires c κs =
 returns : tie.Need-returns
 returns c =
     let a = c .before .before .before .before .before .before .before .before .before .args in
-    read-narrow (a .c) (a .h .now) (a .cols .now) (c .before .before .message-columns .ensures .number) (a .received .now) (a .repaired .now)
-    (c .if1 .taken)
+    read-narrow (a .c) (a .h .now) (a .cols .now) (c .before .before .message-columns .ensures .number) (a .received .now) (c .if1 .taken)
+    (a .repaired .now)
+
+slice-aggregate-read : tie.Need-slice-aggregate-read
+slice-aggregate-read c = search needs
+
+array-borrow-prefix-message : tie.Need-array-borrow-prefix-message
+array-borrow-prefix-message c =
+    let found = c .before .before .before in
+    omega (arith, fewer (found .message-columns .ensures), columns-short (found .before .before .before .before .before .before .before .pre .0 .0))
+
+slice-aggregate-read-2 : tie.Need-slice-aggregate-read-2
+slice-aggregate-read-2 c =
+    let found = c .before .before .before .before in
+    let O = found .before .before .before .before .before .before .before .pre .0 .0 in
+    sym (length-part (le-trans (fewer (found .message-columns .ensures)) (columns-short O)))
 
 array-borrow-prefix-word : tie.Need-array-borrow-prefix-word
-array-borrow-prefix-word c = omega (arith, columns-short (c .before .before .before .before .before .before .before .before .before .pre .0 .0))
+array-borrow-prefix-word c =
+    omega (arith, columns-short (c .before .before .before .before .before .before .before .before .before .before .before .pre .0 .0))
 
-slice-aggregate-decode : tie.Need-slice-aggregate-decode
-slice-aggregate-decode c =
-    sym (length-part (columns-short (c .before .before .before .before .before .before .before .before .before .before .pre .0 .0)))
+slice-aggregate-read-3 : tie.Need-slice-aggregate-read-3
+slice-aggregate-read-3 c =
+    sym (length-part (columns-short (c .before .before .before .before .before .before .before .before .before .before .before .before .pre .0 .0)))
 
-decode-requires : tie.Need-decode-requires
-decode-requires c κs =
-    let s =
-    c .before .before .before .before .before .before .before .before .before .before in
-    (s .pre .0, (s .pre .1 .0, length-part (columns-short (s .pre .0 .0))))
-
-enum-known-recovery : tie.Need-enum-known-recovery
-enum-known-recovery c = search needs
+read-requires : tie.Need-read-requires
+read-requires c κs =
+    let s = c .before .before .before .before .before .before .before .before .before .before .before .before in
+    let a = s .args in
+    let found = c .before .before .before .before .before .message-columns in
+    let short = columns-short (s .pre .0 .0) in
+    let message-long = sym (length-part (le-trans (fewer (found .ensures)) short)) in
+    let columns =
+    subst (MessageColumns (a .c) (a .h .now) (a .cols .now) (found .last .1 .1 .1 .0)) message-long (found .ensures) in
+    (s .pre .0, ((columns, subst (λ (k : ℕ). rowBits ≤ k) message-long (c .before .before .before .if1 .left)), (s .pre .1 .0, length-part short)))
 
 enum-told : tie.Need-enum-told
 enum-told c = search needs
 
-refusal-requires : tie.Need-refusal-requires
-refusal-requires c κs = search needs
-
-returns-2 : tie.Need-returns-2
-returns-2 c =
-    let a = c .before .before .before .before .before .before .before .before .before .before .before .before .before .before .before .args in
-    let (read, kept) =
-    not-repaired (a .c) (a .h .now) (a .cols .now)
-    (c .before .before .before .before .before .before .before .before .message-columns .ensures .number) (a .received .now) (a .repaired .now)
-    (c .before .before .before .before .before .before .if1 .left)
-    (c .before .before .before .before .decode .ensures) (c .before .enum-told .given .1) in
-    (ap Refused (c .refusal .ensures) ∙ read, kept)
-
-slice-aggregate-carried-row : tie.Need-slice-aggregate-carried-row
-slice-aggregate-carried-row c = search needs
-
 array-share-prefix-word : tie.Need-array-share-prefix-word
 array-share-prefix-word c =
-    let s = c .before .before .before .before .before .before .before .before .before .before .before .before .before .before .before .before in
-    let call = c .before .before .before .before .before .decode in
-    front-long (call .last .1 .1 .1 .1 .1 .0) (drop (length (s .args .cols .now)) zeros)
-    (call .kept .1 .1 .1 .1 .1 .0 ∙ length-part (columns-short (s .pre .0 .0)))
+    let done = c .before .before .before .before in
+    let s = done .before .before .before .before .before .before .before .before .before .before .before .before .before in
+    let call = done .read in
+    front-long (call .last .1 .1 .1 .1 .1 .1 .1 .0) (drop (length (s .args .cols .now)) zeros)
+    (call .kept .1 .1 .1 .1 .1 .1 .1 .0 ∙ length-part (columns-short (s .pre .0 .0)))
 
-slice-aggregate-carried-row-2 : tie.Need-slice-aggregate-carried-row-2
-slice-aggregate-carried-row-2 c =
-    let s =
-    c .before .before .before .before .before .before .before .before .before .before .before .before .before .before .before .before .before in
+slice-aggregate-copy-bits : tie.Need-slice-aggregate-copy-bits
+slice-aggregate-copy-bits c =
+    let done = c .before .before .before .before .before in
+    let s = done .before .before .before .before .before .before .before .before .before .before .before .before .before in
+    let call = done .read in
     let n = length (s .args .cols .now) in
-    let call = c .before .before .before .before .before .before .decode in
-    let long = call .kept .1 .1 .1 .1 .1 .0 ∙ length-part (columns-short (s .pre .0 .0)) in
-    sym (ap length (take-at (call .last .1 .1 .1 .1 .1 .0) (drop n zeros) n long) ∙ long)
+    let long = call .kept .1 .1 .1 .1 .1 .1 .1 .0 ∙ length-part (columns-short (s .pre .0 .0)) in
+    sym (length-front (call .last .1 .1 .1 .1 .1 .1 .1 .0) (drop n zeros) long)
 
-array-borrow-prefix-message : tie.Need-array-borrow-prefix-message
-array-borrow-prefix-message c =
-    omega (
-      arith,
-      fewer (c .before .before .before .before .before .before .before .before .before .before .message-columns .ensures),
-      columns-short
-          (c .before .before .before .before .before .before .before .before .before .before .before .before .before .before .before .before .before .pre .0 .0),
-    )
-
-slice-aggregate-carried-row-3 : tie.Need-slice-aggregate-carried-row-3
-slice-aggregate-carried-row-3 c =
-    sym (length-part (le-trans (fewer
-    (c .before .before .before .before .before .before .before .before .before .before .before .message-columns .ensures))
-    (columns-short (c .before .before .before .before .before .before .before .before .before .before .before .before .before .before .before .before .before .before .pre .0 .0))))
-
-carried-row-requires : tie.Need-carried-row-requires
-carried-row-requires c κs =
-    let s =
-    c .before .before .before .before .before .before .before .before .before .before .before .before .before .before .before .before .before .before .before in
+copy-bits-requires : tie.Need-copy-bits-requires
+copy-bits-requires c κs =
+    let done = c .before .before .before .before .before .before in
+    let s = done .before .before .before .before .before .before .before .before .before .before .before .before .before in
+    let call = done .read in
     let n = length (s .args .cols .now) in
-    let found = c .before .before .before .before .before .before .before .before .before .before .before .before .message-columns in
-    let M = found .ensures in
-    let call = c .before .before .before .before .before .before .before .before .decode in
-    let long = call .kept .1 .1 .1 .1 .1 .0 ∙ length-part (columns-short (s .pre .0 .0)) in
-    let word-long = ap length (take-at (call .last .1 .1 .1 .1 .1 .0) (drop n zeros) n long) ∙ long in
-    let message-long = length-part (le-trans (fewer M) (columns-short (s .pre .0 .0))) in (
-      (
-        subst (λ (k : ℕ). k ≤ length (found .last .1 .1 .1 .0)) (sym word-long) (M .long),
-        message-long ∙ counted M ∙ ap (λ (k : ℕ). freeCount k (found .last .1 .1 .1 .0)) (sym word-long),
-      ),
-      (
-        subst (λ (k : ℕ). rowBits ≤ k) (sym message-long)
-            (c .before .before .before .before .before .before .before .before .before .before .if1 .left),
-        s .pre .1 .1 ∙ sym word-long,
-      ),
-    )
+    let long = call .kept .1 .1 .1 .1 .1 .1 .1 .0 ∙ length-part (columns-short (s .pre .0 .0)) in
+    s .pre .1 .1 ∙ sym (length-front (call .last .1 .1 .1 .1 .1 .1 .1 .0) (drop n zeros) long)
+
+enum-told-2 : tie.Need-enum-told-2
+enum-told-2 c = search needs
 
 same-length : tie.Need-same-length
 same-length c = search needs
 
+returns-2 : tie.Need-returns-2
+returns-2 c =
+    let done = c .before .before .before .before .before .before .before .before .before in
+    let s = done .before .before .before .before .before .before .before .before .before .before .before .before .before in
+    let a = s .args in
+    let call = done .read in
+    let n = length (a .cols .now) in
+    let word = call .last .1 .1 .1 .1 .1 .1 .1 .0 in
+    let long = call .kept .1 .1 .1 .1 .1 .1 .1 .0 ∙ length-part (columns-short (s .pre .0 .0)) in
+    let R =
+    subst (λ (r : Reading). ReadInto (a .c) (a .h .now) (a .cols .now) (a .received .now) r word)
+    (c .before .before .before .before .before .enum-told .given .1) (call .ensures) in
+    (call .ensures .answer, row-copied R (a .repaired .now) (c .before .before .copy-bits .ensures ∙ take-at word (drop n zeros) n long))
+
 returns-3 : tie.Need-returns-3
 returns-3 c =
-    let s =
-    c .before .before .before .before .before .before .before .before .before .before .before .before .before .before .before .before .before .before .before .before .before .before .before in
-    let a = s .args in
-    let n = length (a .cols .now) in
-    let found =
-    c .before .before .before .before .before .before .before .before .before .before .before .before .before .before .before .before .message-columns in
-    let leads = found .last .1 .1 .1 .0 in
-    let call = c .before .before .before .before .before .before .before .before .before .before .before .before .decode in
-    let word = call .last .1 .1 .1 .1 .1 .0 in
-    let long = call .kept .1 .1 .1 .1 .1 .0 ∙ length-part (columns-short (s .pre .0 .0)) in
-    let part = take-at word (drop n zeros) n long in
-    let row = c .before .before .before .carried-row .ensures in
-    let message = chosen n (freeAt leads) (entryOf word) in
-    let here = ap (λ (x : List ℕ). chosen (length x) (freeAt leads) (entryOf x)) part ∙ ap (λ (k : ℕ). chosen k (freeAt leads) (entryOf word)) long in
-    row-decides (a .c) (a .h .now) (a .cols .now) (found .ensures .number) (a .received .now) (a .repaired .now)
-    (c .before .before .before .before .before .before .before .before .before .before .before .before .before .before .if1 .left)
-    (call .ensures) (c .before .before .before .before .before .before .before .before .before .recovery .given .1) {message = message}
-    (sym (message-is (found .ensures) word))
-    (row .0 ∙ ap (λ (x : List ℕ). carriedAnswer x
-    (c .before .before .before .before .before .before .before .before .before .recovery .given .0 .0)) here)
-    (row .1 ∙ ap₂ (λ (x y : List ℕ). carriedAfter x y (a .repaired .now)) here part)
+    let done = c .before .before .before .before in
+    let a = done .before .before .before .before .before .before .before .before .before .before .before .before .before .args in
+    let call = done .read in
+    let R =
+    subst (λ (r : Reading). ReadInto (a .c) (a .h .now) (a .cols .now) (a .received .now) r (call .last .1 .1 .1 .1 .1 .1 .1 .0))
+    (c .enum-told2 .given .1) (call .ensures) in
+    (call .ensures .answer, refused-left R (a .repaired .now))
 
 pub read-spec : {M : Type 1} → statement M
 read-spec =
@@ -155,18 +128,17 @@ read-spec =
     slice-aggregate-message-columns
     message-columns-requires
     returns
-    array-borrow-prefix-word
-    slice-aggregate-decode
-    decode-requires
-    enum-known-recovery
-    enum-told
-    refusal-requires
-    returns-2
-    slice-aggregate-carried-row
-    array-share-prefix-word
-    slice-aggregate-carried-row-2
+    slice-aggregate-read
     array-borrow-prefix-message
-    slice-aggregate-carried-row-3
-    carried-row-requires
+    slice-aggregate-read-2
+    array-borrow-prefix-word
+    slice-aggregate-read-3
+    read-requires
+    enum-told
+    array-share-prefix-word
+    slice-aggregate-copy-bits
+    copy-bits-requires
+    enum-told-2
     same-length
+    returns-2
     returns-3)

@@ -39,11 +39,11 @@ returns-2 c =
     (a .lamp) (a .word .now) (c .before .before .if1 .left)
     (failed (c .before .is-row .ensures) (c .if2 .taken))
 
-slice-aggregate-carry-row : tie.Need-slice-aggregate-carry-row
-slice-aggregate-carry-row c = search needs
+slice-aggregate-write : tie.Need-slice-aggregate-write
+slice-aggregate-write c = search needs
 
-slice-aggregate-carry-row-2 : tie.Need-slice-aggregate-carry-row-2
-slice-aggregate-carry-row-2 c = search needs
+slice-aggregate-write-2 : tie.Need-slice-aggregate-write-2
+slice-aggregate-write-2 c = search needs
 
 array-borrow-prefix-message : tie.Need-array-borrow-prefix-message
 array-borrow-prefix-message c =
@@ -54,13 +54,13 @@ array-borrow-prefix-message c =
           (c .before .before .before .before .before .before .before .before .before .before .before .before .before .pre .0),
     )
 
-slice-aggregate-carry-row-3 : tie.Need-slice-aggregate-carry-row-3
-slice-aggregate-carry-row-3 c =
+slice-aggregate-write-3 : tie.Need-slice-aggregate-write-3
+slice-aggregate-write-3 c =
     sym (length-part (le-trans (fewer (c .before .before .before .before .before .before .before .before .code-basis .ensures .columns))
     (columns-short (c .before .before .before .before .before .before .before .before .before .before .before .before .before .before .pre .0))))
 
-carry-row-requires : tie.Need-carry-row-requires
-carry-row-requires c κs =
+write-requires : tie.Need-write-requires
+write-requires c κs =
     let s = c .before .before .before .before .before .before .before .before .before .before .before .before .before .before .before in
     let found = c .before .before .before .before .before .before .before .before .before .code-basis in
     let B = found .ensures in
@@ -75,17 +75,17 @@ same-length c = search needs
 
 returns-3 : tie.Need-returns-3
 returns-3 c =
-    let s =
-    c .before .before .before .before .before .before .before .before .before .before .before .before .before .before .before .before .before .before .before in
+    let found = c .before .before .before .before .before .before .before .before .before .before .before .before .before in
+    let s = found .before .before .before .before .before .before in
     let a = s .args in
-    let B = c .before .before .before .before .before .before .before .before .before .before .before .before .before .code-basis .ensures in
-    let carry = c .before .before .before .carry-row in
+    let B = found .code-basis .ensures in
+    let written = c .before .before .before .write in
     let long = length-part (le-trans (fewer (B .columns)) (columns-short (s .pre .0))) in
     write-fits (a .c) (a .h .now) (a .cols .now) (B .columns .number) (a .gear) (a .lamp) (a .word .now)
     (c .before .before .before .before .before .before .before .before .before .before .if1 .left)
     (passed (c .before .before .before .before .before .before .before .before .before .is-row .ensures)
     (c .before .before .before .before .before .before .before .before .if2 .left))
-    (row-carried B (a .gear) (a .lamp) long (s .pre .1) (carry .kept .1 .1 .1 .1 .1 .0) (carry .ensures))
+    (row-carried B (a .gear) (a .lamp) long (s .pre .1) (written .kept .1 .1 .1 .1 .1 .0) (written .ensures))
 
 pub write-spec : {M : Type 1} → statement M
 write-spec =
@@ -97,10 +97,10 @@ write-spec =
     returns
     is-row-requires
     returns-2
-    slice-aggregate-carry-row
-    slice-aggregate-carry-row-2
+    slice-aggregate-write
+    slice-aggregate-write-2
     array-borrow-prefix-message
-    slice-aggregate-carry-row-3
-    carry-row-requires
+    slice-aggregate-write-3
+    write-requires
     same-length
     returns-3)

@@ -5,8 +5,8 @@ use borrow.Author.Needs.{needs}
 use Rattle.words.proofs.selection.syndrome.Statement.{statement}
 use Rattle.words.proofs.selection.syndrome.Tie as tie
 
-is-word-length-requires : tie.Need-is-word-length-requires
-is-word-length-requires c κs = search needs
+is-parts-length-requires : tie.Need-is-parts-length-requires
+is-parts-length-requires c κs = search needs
 
 cast-t12 : tie.Need-cast-t12
 cast-t12 c = search needs
@@ -25,7 +25,7 @@ syndrome-requires c κs =
     record {
       at = selection _ _;
       begun = begun-as (c .before .before .before .selected-code .ensures)
-          (c .before .before .before .before .before .before .is-word-length .ensures);
+          (c .before .before .before .before .before .before .is-parts-length .ensures);
     }
 
 same-length : tie.Need-same-length
@@ -35,13 +35,13 @@ returns : tie.Need-returns
 returns c =
     c .before .before .syndrome .ensures (selection _ _)
     (begun-as (c .before .before .before .before .before .before .selected-code .ensures)
-    (c .before .before .before .before .before .before .before .before .before .is-word-length .ensures))
+    (c .before .before .before .before .before .before .before .before .before .is-parts-length .ensures))
 
 pub syndrome-spec : {M : Type 1} → statement M
 syndrome-spec =
     tie.close
     (tie.spec
-    is-word-length-requires
+    is-parts-length-requires
     cast-t12
     slice-aggregate-selected-code
     selected-code-requires

@@ -1,4 +1,4 @@
--- `internal::carry_row` meets its contract.
+-- `based::write` meets its contract.
 use mathlib.Core.Path.{sym, subst}
 use mathlib.Core.List.{List}
 use Prim.Native.Nat.{ℕ, _≤_}
@@ -7,8 +7,8 @@ use Rattle.slices.specs.Bits.{Bits}
 use Rattle.basis.specs.Table.{freeCount, Carried}
 use Rattle.gears.specs.Messages.{length-message, message-bits}
 use borrow.Author.Needs.{needs}
-use Rattle.rows.proofs.internal.carry_row.Statement.{statement}
-use Rattle.rows.proofs.internal.carry_row.Tie as tie
+use Rattle.rows.proofs.based.write.Statement.{statement}
+use Rattle.rows.proofs.based.write.Tie as tie
 
 place-row-requires : tie.Need-place-row-requires
 place-row-requires c κs = search needs
@@ -41,5 +41,5 @@ returns c =
     (c .before .before .before .before .before .before .before .place-row .ensures)
     (carry .ensures)
 
-pub carry-row-spec : {M : Type 1} → statement M
-carry-row-spec = tie.close (tie.spec place-row-requires carry-requires same-length same-length-2 returns)
+pub write-spec : {M : Type 1} → statement M
+write-spec = tie.close (tie.spec place-row-requires carry-requires same-length same-length-2 returns)

@@ -1,10 +1,10 @@
 -- `lamp_number` meets its contract, lamp by lamp.
 use mathlib.Core.Path.{sym, ap}
 use lib.Dec.{lit<}
 use Rattle.gears.specs.Rows.{lampNumber}
 use borrow.Author.Needs.{needs}
-use Rattle.wire.proofs.lamp_number.Statement.{statement}
-use Rattle.wire.proofs.lamp_number.Tie as tie
+use Rattle.gears.proofs.lamp_number.Statement.{statement}
+use Rattle.gears.proofs.lamp_number.Tie as tie
 
 enum-told : tie.Need-enum-told
 enum-told c = search needs

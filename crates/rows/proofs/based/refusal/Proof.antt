@@ -1,9 +1,9 @@
--- `internal::refusal` meets its contract, case by case.
+-- `based::refusal` meets its contract, case by case.
 use mathlib.Core.Path.{sym, ap}
 use Rattle.rows.specs.Parts.{refusalOf}
 use borrow.Author.Needs.{needs}
-use Rattle.rows.proofs.internal.refusal.Statement.{statement}
-use Rattle.rows.proofs.internal.refusal.Tie as tie
+use Rattle.rows.proofs.based.refusal.Statement.{statement}
+use Rattle.rows.proofs.based.refusal.Tie as tie
 
 enum-told : tie.Need-enum-told
 enum-told c = search needs
