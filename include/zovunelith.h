@@ -23,7 +23,7 @@ typedef uint8_t zov_elem;
 int32_t zov_field_sum(uint32_t m, uint32_t a, uint32_t b);
 int32_t zov_field_product(uint32_t m, uint32_t a, uint32_t b);
 
-/* Refused by 1, 3, then 4 (the inverse of zero). */
+/* The element whose product with a is 1; for 0, which has none, it is 0. Refused by 1, 3. */
 int32_t zov_field_inverse(uint32_t m, uint32_t a);
 
 /* Dyadic blocks: signatures of s elements, s a power of two from 1 to 128; `out` has s elements too. The value is 0.
@@ -50,7 +50,8 @@ int32_t zov_formula(uint32_t m, const uint8_t *text, size_t text_length, const z
                     const zov_elem *b, size_t b_length, const zov_elem *c, size_t c_length,
                     const zov_elem *d, size_t d_length, zov_elem *out, size_t out_length);
 
-/* A code's parameters: width m, length n, t roots, offset omega, signature h of n elements. Refused by 1 to 7.
+/* A code's parameters: width m, length n, t roots, offset omega, signature h of n elements. Refused by 1 to 7; 4 is a zero
+ * in h, and is given for codes alone.
  * zov_check writes n roots and n support elements; the value is 0. */
 int32_t zov_check(uint32_t m, uint32_t n, uint32_t t, uint32_t omega, const zov_elem *h, size_t h_length,
                   zov_elem *roots, size_t roots_length, zov_elem *support, size_t support_length);

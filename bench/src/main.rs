@@ -91,7 +91,7 @@ fn signature(random: &mut Random, m: u32, n: u32) -> Vec<u8> {
         span.extend(shifted);
     }
     let offset = outside(random, &span);
-    span.iter().map(|&element| field::inverse(m, element ^ offset).expect("not zero") as u8).collect()
+    span.iter().map(|&element| field::inverse(m, element ^ offset).expect("an element") as u8).collect()
 }
 
 /// Has the value computed.

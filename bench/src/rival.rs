@@ -57,9 +57,19 @@ impl Field {
         self.exp[(self.log[a as usize] + self.log[b as usize]) as usize]
     }
 
+    /// The inverse of an element other than 0.
+    #[inline]
+    fn reciprocal(&self, a: u8) -> u8 {
+        self.exp[((1 << self.m) - 1 - self.log[a as usize] as u32) as usize]
+    }
+
+    /// The inverse, and 0 for 0.
     #[inline]
     pub fn inverse(&self, a: u8) -> u8 {
-        self.exp[((1 << self.m) - 1 - self.log[a as usize] as u32) as usize]
+        if a == 0 {
+            return 0;
+        }
+        self.reciprocal(a)
     }
 }
 
@@ -76,7 +86,7 @@ pub fn block_inverse(field: &Field, a: &[u8], out: &mut [u8]) -> bool {
     if sum == 0 {
         return false;
     }
-    let scale = field.inverse(field.product(sum, sum));
+    let scale = field.reciprocal(field.product(sum, sum));
     for (entry, &old) in out.iter_mut().zip(a) {
         *entry = field.product(old, scale);
     }
@@ -211,7 +221,7 @@ impl<'a> Code<'a> {
         }
         let mut inverses = [0; 128];
         for (inverse, &entry) in inverses.iter_mut().zip(self.h) {
-            *inverse = self.field.inverse(entry);
+            *inverse = self.field.reciprocal(entry);
         }
         for i in 0..n {
             for j in 0..n {

@@ -26,7 +26,14 @@ pub fn product(m: u32, a: u32, b: u32) -> Result<u32, Refusal> {
     answer(unsafe { c::zov_field_product(m, a, b) })
 }
 
-/// The element whose product with a is 1. Refused by 1, 3, 4.
+/// The element whose product with a is 1; for 0, which has none, it is 0. Refused by 1, 3.
+///
+/// ```
+/// use zovunelith::field::inverse;
+///
+/// assert_eq!(inverse(5, 12), Ok(7));
+/// assert_eq!(inverse(5, 0), Ok(0));
+/// ```
 pub fn inverse(m: u32, a: u32) -> Result<u32, Refusal> {
     // SAFETY: numbers only; every number may come.
     answer(unsafe { c::zov_field_inverse(m, a) })

@@ -12,7 +12,7 @@ pub enum Refusal {
     Length = 2,
     /// 3: an element or the offset is 2^m or more.
     Stranger = 3,
-    /// 4: a zero in a code's signature, or the inverse of the element zero.
+    /// 4: a zero in a code's signature.
     Blank = 4,
     /// 5: the rule for 1/h fails for some i and j.
     Crossed = 5,
@@ -45,7 +45,7 @@ const TABLE: [(Refusal, &str, &str); 16] = [
     (Refusal::Width, "width", "m outside 2 to 8"),
     (Refusal::Length, "length", "n, a block, a ride or a lent buffer has another length than is asked for"),
     (Refusal::Stranger, "stranger", "an element or offset of 2^m or more"),
-    (Refusal::Blank, "blank", "a zero in a signature, or the inverse of zero"),
+    (Refusal::Blank, "blank", "a zero in a signature"),
     (Refusal::Crossed, "crossed", "the rule for 1/h fails for some i and j"),
     (Refusal::Twin, "twin", "two equal entries in a signature"),
     (Refusal::Rows, "rows", "t is not a power of two from 1 to n/2"),

@@ -52,15 +52,16 @@ pub fn live_block(random: &mut Random, m: u32, s: usize) -> Vec<Elem> {
     block_of_sum(random, m, s, sum)
 }
 
+/// The sum of those of `steps` that the bits of i choose.
+fn chosen(steps: &[Elem], i: usize) -> Elem {
+    (0..steps.len()).filter(|&bit| i >> bit & 1 == 1).fold(0, |sum, bit| sum ^ steps[bit])
+}
+
 /// The signature whose 1/h_i is `first` plus those of `steps` that the bits of i choose. It keeps the rule for 1/h
-/// whatever the steps are. No choice of them may sum to `first`, which would leave a reciprocal of zero.
+/// whatever the steps are, with 0 for 1/0 where a choice of them sums to `first`.
 pub fn signature_from(m: u32, first: Elem, steps: &[Elem]) -> Vec<Elem> {
-    let mut reciprocals = vec![first];
-    for step in steps {
-        let moved: Vec<Elem> = reciprocals.iter().map(|value| value ^ step).collect();
-        reciprocals.extend(moved);
-    }
-    reciprocals.into_iter().map(|value| field::reciprocal(m, value)).collect()
+    let entry = |i| field::inverse(m, (first ^ chosen(steps, i)).into()).expect("an element") as Elem;
+    (0..1 << steps.len()).map(entry).collect()
 }
 
 /// All sums of choices among `values`, as marks over the field.
@@ -83,22 +84,31 @@ fn outside(random: &mut Random, m: u32, values: &[Elem]) -> Elem {
     random.pick(&free)
 }
 
-/// An accepted signature; n is at most q/2.
-pub fn signature(random: &mut Random, m: u32, n: u32) -> Vec<Elem> {
+/// Steps of which no two choices have the same sum, at most m.
+fn independent_steps(random: &mut Random, m: u32, count: u32) -> Vec<Elem> {
     let mut steps = Vec::new();
-    for _ in 0..n.ilog2() {
+    for _ in 0..count {
         steps.push(outside(random, m, &steps));
     }
+    steps
+}
+
+/// An accepted signature; n is at most q/2.
+pub fn signature(random: &mut Random, m: u32, n: u32) -> Vec<Elem> {
+    let steps = independent_steps(random, m, n.ilog2());
     let first = outside(random, m, &steps);
     signature_from(m, first, &steps)
 }
 
+/// A signature with a zero at this place that keeps every other rule, if 0 stands for 1/0; n is at most q.
+pub fn blank_signature(random: &mut Random, m: u32, n: u32, place: usize) -> Vec<Elem> {
+    let steps = independent_steps(random, m, n.ilog2());
+    signature_from(m, chosen(&steps, place), &steps)
+}
+
 /// A signature with equal entries that keeps the rule for 1/h and has no zero, of any length.
 pub fn twin_signature(random: &mut Random, m: u32, n: u32) -> Vec<Elem> {
-    let mut steps = Vec::new();
-    for _ in 1..n.ilog2().min(m - 1) {
-        steps.push(outside(random, m, &steps));
-    }
+    let mut steps = independent_steps(random, m, n.ilog2().min(m - 1) - 1);
     let first = outside(random, m, &steps);
     // The steps that are left are sums of the others, so two choices of steps agree.
     let marks = span(m, &steps);

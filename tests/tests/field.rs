@@ -52,7 +52,25 @@ fn inverses_of_all_elements() {
         for a in 0..reference::size(m) {
             assert_eq!(library::inverse(m, a), reference::inverse(m, a), "width {m}: inverse of {a}");
         }
-        assert_eq!(library::inverse(m, 0), Err(4), "width {m}");
+    }
+}
+
+/// Whole tables as a bench lists them, with 0 for 0. The powers of u run through all other elements, and the inverse of
+/// u^i is u^(q − 1 − i).
+#[test]
+fn tables_of_inverses() {
+    for (m, _) in reference::WORDS {
+        let order = reference::size(m) as usize - 1;
+        let mut powers = vec![1];
+        for i in 1..order {
+            powers.push(reference::product(m, 2, powers[i - 1]).expect("elements"));
+        }
+        let mut table = vec![0; order + 1];
+        for i in 0..order {
+            table[powers[i] as usize] = powers[(order - i) % order];
+        }
+        let listed: Vec<Result<u32, u32>> = (0..reference::size(m)).map(|a| library::inverse(m, a)).collect();
+        assert_eq!(listed, table.into_iter().map(Ok).collect::<Vec<_>>(), "width {m}");
     }
 }
 
@@ -86,7 +104,7 @@ fn laws_hold_for_random_elements() {
     }
 }
 
-/// 1 comes before 3 and 4, whatever the elements are.
+/// 1 comes before 3, whatever the elements are.
 #[test]
 fn widths_outside_the_table() {
     for m in BAD_WIDTHS {

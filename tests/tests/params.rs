@@ -220,6 +220,23 @@ fn crossed_away_from_the_powers_of_two() {
     }
 }
 
+/// A zero is 4 at every place, also in a signature that would be accepted if 1/0 were 0.
+#[test]
+fn zeros_at_every_place() {
+    let mut random = Random::new(316);
+    for (m, n, t) in draw::shapes() {
+        let params = draw::params(&mut random, m, n, t);
+        for place in 0..n as usize {
+            let mut blank = params.clone();
+            blank.h[place] = 0;
+            assert_eq!(compare(&blank), Err(4), "{blank:?}");
+            blank.h = draw::blank_signature(&mut random, m, n, place);
+            assert_eq!(blank.h.iter().position(|&entry| entry == 0), Some(place), "{blank:?}");
+            assert_eq!(compare(&blank), Err(4), "{blank:?}");
+        }
+    }
+}
+
 /// n above q/2 is never accepted: over all signatures that keep the rule for 1/h, where they can all be looked at,
 /// and over many of them elsewhere.
 #[test]
@@ -230,16 +247,7 @@ fn more_than_half_the_field_is_never_accepted() {
         let e = u32::ilog2(n);
         for index in 0..q.pow(e + 1) {
             let values: Vec<Elem> = (0..=e).map(|i| (index / q.pow(i) % q) as Elem).collect();
-            let entry = |i: usize| {
-                let chosen = (0..e as usize).filter(|&bit| i >> bit & 1 == 1);
-                let reciprocal = chosen.fold(values[0], |sum, bit| sum ^ values[bit + 1]);
-                if reciprocal == 0 {
-                    0
-                } else {
-                    field::reciprocal(m, reciprocal)
-                }
-            };
-            let params = small(m, 0, &(0..n as usize).map(entry).collect::<Vec<Elem>>());
+            let params = small(m, 0, &draw::signature_from(m, values[0], &values[1..]));
             assert!(compare(&params).is_err(), "{params:?}");
         }
     }

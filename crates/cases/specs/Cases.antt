@@ -13,7 +13,7 @@ use Rattle.algebra.specs.Tabulate.{tabulate}
 use Rattle.algebra.specs.Xor.{_⊕_}
 use Rattle.field.specs.declared.Answer.{Answer}
 use Rattle.field.specs.declared.Answer.the-variants.{Element, Refused as NoElement}
-use Rattle.field.specs.Answers.{elementRules, pairFault, productAnswer, inverseFault, inverseAnswer}
+use Rattle.field.specs.Answers.{elementRules, elementFault, pairFault, productAnswer, inverseAnswer}
 use Rattle.field.specs.Product.{polyProduct, cutBack, remainder, product, squares, inverse}
 use Rattle.refusals.specs.Rules.{fault, unless-refused}
 use Rattle.field.specs.Range.{isWidth, isElement}
@@ -141,7 +141,7 @@ agreeing (c ∷ cs) e =
     let (here, rest) = both-true (sameList (c .given) (c .said)) (agree cs) e in (sameList-is (c .given) (c .said) .0 here, agreeing cs rest)
 
 table-agrees : agree table ≡ true
-unfolding agree table is element outcome recovery marked card blockProductOf blockInverseOf signatureOf signatureA encodingA repairA elementRules pairFault productAnswer inverseFault inverseAnswer polyProduct cutBack remainder product squares inverse fault unless-refused isWidth isElement words word allElements isPower sizeRules blockRules blockPairRules inverseRules blockPairFault blockInverseFault blockProductAnswer blockProductAfter blockInverseAnswer blockInverseAfter blockProduct total quotient blockInverse isInvertible codeFault checkFault checkAnswer supportAfter isLength isRootCount shapeRules signatureRules codeRules rootAt supportAt inverseAt nonzero noZero pairKept affine linear distinct messageRules encodeFault encodeAnswer encodeAfter count chosen wordOf found sameList sameEntry isSumOf isSum isMessageColumn dimension messageOf encodingOf whole columnsOf settingRules allBits parityAt held syndromeAt isCodeWord wordRules turnedCount repairFault repairAnswer repairAfter distance isNear isRepairable differs repairedOf all some bitAt sum tabulate _⊕_
+unfolding agree table is element outcome recovery marked card blockProductOf blockInverseOf signatureOf signatureA encodingA repairA elementRules elementFault pairFault productAnswer inverseAnswer polyProduct cutBack remainder product squares inverse fault unless-refused isWidth isElement words word allElements isPower sizeRules blockRules blockPairRules inverseRules blockPairFault blockInverseFault blockProductAnswer blockProductAfter blockInverseAnswer blockInverseAfter blockProduct total quotient blockInverse isInvertible codeFault checkFault checkAnswer supportAfter isLength isRootCount shapeRules signatureRules codeRules rootAt supportAt inverseAt nonzero noZero pairKept affine linear distinct messageRules encodeFault encodeAnswer encodeAfter count chosen wordOf found sameList sameEntry isSumOf isSum isMessageColumn dimension messageOf encodingOf whole columnsOf settingRules allBits parityAt held syndromeAt isCodeWord wordRules turnedCount repairFault repairAnswer repairAfter distance isNear isRepairable differs repairedOf all some bitAt sum tabulate _⊕_
 table-agrees = refl
 
 pub table-holds : Hold table

@@ -12,7 +12,7 @@
 -- `counts-up-to-there` of `Ride`). Refused by any other number, it leaves the buffer as it was (`ride-unchanged`).
 use mathlib.Core.Path.{_≡_, refl, sym, ap, ap₂, _∙_, subst}
 use mathlib.Core.Logic.{_≢_, _↔_, _⊎_, inl, inr}
-use mathlib.Core.Bool.{Bool, true, not, _&&_}
+use mathlib.Core.Bool.{Bool, true, _&&_}
 use mathlib.Core.List.{List, [], _∷_, _++_, append-assoc, append-nil}
 use Prim.Native.Nat.{ℕ, zero, suc}
 use native.Mathlib.Decide.{ℕ-discrete}
@@ -27,7 +27,7 @@ use Rattle.refusals.specs.declared.Outcome.the-variants.{Done, Refused}
 use Rattle.refusals.specs.Rules.{Rule, _unless_, Hold, fault, unless-refused}
 use Rattle.refusals.specs.RuleLaws.{fault-none, hold, given}
 use Rattle.field.specs.declared.Answer.the-variants.{Element, Refused as NoElement}
-use Rattle.field.specs.Answers.{elementRules, pairFault, sumAnswer, productAnswer, inverseFault, inverseAnswer}
+use Rattle.field.specs.Answers.{elementRules, elementFault, pairFault, sumAnswer, productAnswer, inverseAnswer}
 use Rattle.field.specs.Product.{product, inverse}
 use Rattle.field.specs.Range.{isElement}
 use Rattle.field.specs.Words.{word}
@@ -119,10 +119,9 @@ module _ (m a b : ℕ) where
   field-product-refuses = refuses NoElement _ (element-apart _) same-element (elementRules m a ++ (3 unless isElement m b) ∷ []) refl
 
 module _ (m a : ℕ) where
-  pub field-inverse-refuses : Refuses (inverseAnswer m a) NoElement (Element (inverse m (word m) a))
-      (elementRules m a ++ (4 unless not (eqb a 0)) ∷ [])
-  unfolding inverseAnswer inverseFault elementRules
-  field-inverse-refuses = refuses NoElement _ (element-apart _) same-element (elementRules m a ++ (4 unless not (eqb a 0)) ∷ []) refl
+  pub field-inverse-refuses : Refuses (inverseAnswer m a) NoElement (Element (inverse m (word m) a)) (elementRules m a)
+  unfolding inverseAnswer elementFault elementRules
+  field-inverse-refuses = refuses NoElement _ (element-apart _) same-element (elementRules m a) refl
 
 -- ---- blocks
 

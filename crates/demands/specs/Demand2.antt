@@ -5,17 +5,15 @@
 -- Every law here is for every width m of the table, and what is said of words is said at every setting: of the whole code, and of every selection.
 use mathlib.Core.Path.{_≡_, refl, sym, ap, _∙_, subst}
 use mathlib.Core.Logic.{_≢_, _↔_}
-use mathlib.Core.Bool.{true, false≢true, not}
+use mathlib.Core.Bool.{true, false≢true}
 use mathlib.Core.List.{List}
 use Prim.Native.Nat.{ℕ, _*_, _^_, _<_, _≤_}
-use native.Mathlib.Decide.{ℕ-discrete}
-use native.Mathlib.Omega.{arith}
 use lib.Dec.{eqb}
 use lib.ListN.{length}
-use borrow.Author.Tests.{eq-eqb, ne-eqb, not-true}
+use borrow.Author.Tests.{eq-eqb, not-true}
 use Rattle.algebra.specs.Lists.{entryOf}
 use Rattle.algebra.specs.TabulateLaws.{getD-tabulate}
-use Rattle.refusals.specs.Answered.{done-apart, done-none}
+use Rattle.refusals.specs.Answered.{done-none}
 use Rattle.refusals.specs.declared.Outcome.the-variants.{Done, Refused}
 use Rattle.refusals.specs.RuleLaws.{fault-none, hold, given}
 use Rattle.field.specs.Gf.{Width, gf}
@@ -50,7 +48,7 @@ use Rattle.messages.specs.MessageRules.{messageRules}
 use Rattle.words.specs.Answers.{bitRules, syndromeFault, syndromeAnswer, syndromeAfter}
 use Rattle.words.specs.Answers.{encodeFault, encodeAnswer, encodeAfter, messageFault, messageAnswer, messageAfter}
 use Rattle.demands.specs.CodeWords.{CodeWord, code-word-on, code-word}
-use Rattle.demands.specs.Demand1.{block-inverse-refuses}
+use Rattle.demands.specs.Zero.{block-inverse-9-exactly}
 
 -- ---- codes
 
@@ -215,30 +213,14 @@ module _ (m : ℕ) (a out : List ℕ) where
       (subst (Inverses (blockInverse (gf m) a)) (sym (H .long))
       (left-inverse (gf m) F (H .log) a (H .long) ins nonzero, right-inverse (gf m) F (H .log) a (H .long) ins nonzero))
 
-  dead : inverseAnswer m a out ≡ Refused 9 → Shaped × (total (gf m) a ≡ 0)
-  unfolding inverseRules blockRules sizeRules isInvertible
-  dead e =
-      let below = block-inverse-refuses m a out .2 9 e .below in
-      let w = below .0 (omega arith) in
-      let p = below .1 .0 (omega arith) in
-      let fits = below .1 .1 .0 (omega arith) in
-      let elements = below .1 .1 .1 .0 (omega arith) in
-      (shaped w p elements, decided w p fits elements (ℕ-discrete (total (gf m) a) 0))
-    where
-      decided : isWidth m ≡ true → isPower (length a) ≡ true → eqb (length out) (length a) ≡ true → allElements m a ≡ true
-          → Dec (total (gf m) a ≡ 0) → total (gf m) a ≡ 0
-      decided w p fits elements (yes z) = z
-      decided w p fits elements (no ne) =
-          absurd
-          (done-apart 9
-          (sym e ∙ block-inverse-refuses m a out .0 .0 (w, (p, (fits, (elements, (ap not (ne-eqb (total (gf m) a) 0 ne), tt)))))))
-
   -- where the block is refused by 9 no matrix is its inverse, on either side
   pub no-inverse : inverseAnswer m a out ≡ Refused 9 → (X : Matrix ℕ)
       → (¬ Same (length a) (matrixProduct (gf m) (length a) X (matrix (gf m) a)) (identity (gf m)))
       × (¬ Same (length a) (matrixProduct (gf m) (length a) (matrix (gf m) a) X) (identity (gf m)))
+  unfolding blockRules sizeRules
   no-inverse e X =
-      let (H, zero) = dead e in
+      let (held, zero) = block-inverse-9-exactly m a out .0 e in
+      let H = shaped (held .0) (held .1 .0) (held .1 .1 .1 .0) in
       let F = gf-laws m (H .width) in (
         λ same. no-left-inverse (gf m) F (H .log) a (H .long) zero X
             (subst (λ (s : ℕ). Same s (matrixProduct (gf m) s X (matrix (gf m) a)) (identity (gf m))) (H .long) same),

@@ -1,20 +1,18 @@
--- The field's calls in plain words: the inverse is the element whose product is 1, the product is the polynomial product cut back by the word, and
--- the product by u is a shift and one cut-back.
+-- The field's calls in plain words: the inverse of 0 is 0, and that of any other element is the one whose product with it is 1; the product is the
+-- polynomial product cut back by the word, and the product by u is a shift and one cut-back.
 use mathlib.Core.Path.{_≡_, sym, ap, _∙_, subst}
 use mathlib.Core.Logic.{_≢_, _↔_}
-use mathlib.Core.Bool.{not}
 use Prim.Native.Nat.{ℕ, _+_, _*_, _/_, _^_, _<_}
 use native.Mathlib.Nat.{lt-of-lt-of-le}
 use lib.Dec.{lit<}
 use lib.Pow.{pow-mono}
-use borrow.Author.Tests.{ne-eqb}
 use Rattle.algebra.specs.FieldLaws.{inv-unique}
 use Rattle.algebra.specs.Xor.{_⊕_}
 use Rattle.field.specs.declared.Answer.the-variants.{Element}
 use Rattle.field.specs.Answers.{elementRules, productAnswer, inverseAnswer}
 use Rattle.field.specs.Division.{quotient, product-divides, product-only}
 use Rattle.field.specs.Gf.{Width, gf}
-use Rattle.field.specs.GfLaws.{gf-isField, gf-laws}
+use Rattle.field.specs.GfLaws.{gf-isField, gf-laws, inverse-is-zero}
 use Rattle.field.specs.Product.{polyProduct, product, inverse}
 use Rattle.field.specs.ProductByU.{shift-and-cut-back}
 use Rattle.field.specs.RangeLaws.{width, element}
@@ -30,19 +28,26 @@ module _ {m : ℕ} (W : Width m) {a : ℕ} (a-in : a < 2 ^ m) where
   unfolding elementRules
   product-answer b b-in = field-product-refuses m a b .0 .0 (width m (W .low) (W .high), (element m a a-in, (element m b b-in, tt)))
 
-  inverse-answer : a ≢ 0 → inverseAnswer m a ≡ Element (inverse m (word m) a)
+  inverse-answer : inverseAnswer m a ≡ Element (inverse m (word m) a)
   unfolding elementRules
-  inverse-answer ne = field-inverse-refuses m a .0 .0 (width m (W .low) (W .high), (element m a a-in, (ap not (ne-eqb a 0 ne), tt)))
+  inverse-answer = field-inverse-refuses m a .0 .0 (width m (W .low) (W .high), (element m a a-in, tt))
 
-  -- the inverse's answer is x exactly if the product's answer for a and x is 1
+  -- "Let the element inverse give 0 for 0": it gives 0 for no other element
+  pub inverse-0-exactly : (inverseAnswer m a ≡ Element 0) ↔ (a ≡ 0)
+  inverse-0-exactly = (
+    λ e. inverse-is-zero m W a a-in .0 (same-value _ _ (sym inverse-answer ∙ e)),
+    λ z. inverse-answer ∙ ap Element (inverse-is-zero m W a a-in .1 z),
+  )
+
+  -- for every other element the answer is x exactly if the product's answer for a and x is 1
   pub inverse-exactly : a ≢ 0 → (x : ℕ) → x < 2 ^ m → (inverseAnswer m a ≡ Element x) ↔ (productAnswer m a x ≡ Element 1)
   inverse-exactly ne x x-in = (
     λ e.
-        let is : inverse m (word m) a ≡ x = same-value _ _ (sym (inverse-answer ne) ∙ e) in
+        let is : inverse m (word m) a ≡ x = same-value _ _ (sym inverse-answer ∙ e) in
         product-answer x x-in ∙ ap Element (ap (product m (word m) a) (sym is) ∙ gf-laws m W .mul-inv a a-in ne),
     λ e.
         let one : product m (word m) a x ≡ 1 = same-value _ _ (sym (product-answer x x-in) ∙ e) in
-        inverse-answer ne ∙ ap Element (sym (inv-unique (gf m) (gf-laws m W) a x a-in x-in ne one)),
+        inverse-answer ∙ ap Element (sym (inv-unique (gf m) (gf-laws m W) a x a-in x-in ne one)),
   )
 
   -- the product's answer is the only polynomial of degree below m that differs from the polynomial product by a multiple of the word

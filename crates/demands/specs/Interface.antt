@@ -2,7 +2,7 @@
 -- include/zovunelith.h, under its name.
 use mathlib.Core.Path.{_≡_, refl, sym, ap, _∙_, subst}
 use mathlib.Core.Logic.{_≢_}
-use mathlib.Core.Bool.{Bool, true, false, _&&_, not}
+use mathlib.Core.Bool.{Bool, true, false, _&&_}
 use mathlib.Core.List.{List, [], _∷_, _++_, append-nil}
 use Prim.Native.Nat.{ℕ, zero, suc, _-_, _%_, _^_, _<_, _≤_}
 use native.Mathlib.Nat.{mod-eq-of-lt}
@@ -19,7 +19,7 @@ use Rattle.refusals.specs.declared.Outcome.the-variants.{Done, Refused}
 use Rattle.refusals.specs.Rules.{Rule, _unless_, fault, unless-refused}
 use Rattle.refusals.specs.RuleLaws.{first-holds, hold}
 use Rattle.field.specs.declared.Answer.the-variants.{Element, Refused as NoElement}
-use Rattle.field.specs.Answers.{elementRules, pairFault, sumAnswer, productAnswer, inverseFault, inverseAnswer}
+use Rattle.field.specs.Answers.{elementRules, elementFault, pairFault, sumAnswer, productAnswer, inverseAnswer}
 use Rattle.field.specs.GfLaws.{gf-isField, gf-laws}
 use Rattle.field.specs.Product.{product, inverse}
 use Rattle.field.specs.Range.{isWidth, isElement}
@@ -316,9 +316,9 @@ module _ (m : ℕ) where
       element-value (held .0) (product m (word m) a b) (product-lt m (word m) (gf-isField m (width-is m (held .0)) .degree) a b))
 
   pub zov-field-inverse : (a : ℕ) → ToldApart elementCode (inverseAnswer m a) NoElement (Element (inverse m (word m) a))
-  unfolding inverseAnswer inverseFault elementRules
+  unfolding inverseAnswer elementFault elementRules
   zov-field-inverse a =
-      let rules = elementRules m a ++ (4 unless not (eqb a 0)) ∷ [] in
+      let rules = elementRules m a in
       told-apart elementCode NoElement (Element (inverse m (word m) a)) (element-apart _) same-element (λ k. refl) (fault rules)
       (fault-up-to greatestNumber rules refl)
       (λ none.

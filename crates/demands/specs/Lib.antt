@@ -2,6 +2,7 @@ pub mod Outcomes
 pub mod Lowest
 pub mod CodeWords
 pub mod Demand1
+pub mod Zero
 pub mod Demand2
 pub mod Demand3
 pub mod Rows

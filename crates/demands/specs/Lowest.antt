@@ -1,7 +1,7 @@
 -- 01: "the lowest number that applies". For a list of rules whose numbers rise, the number that is given is that of a rule which fails, and no rule
 -- with a lower number fails.
 use mathlib.Core.Path.{_≡_, refl, sym, ap, _∙_, subst}
-use mathlib.Core.Logic.{_≢_, _⊎_, inl, inr}
+use mathlib.Core.Logic.{_≢_, _↔_, _⊎_, inl, inr}
 use mathlib.Core.Bool.{Bool, true, false, not, _&&_}
 use mathlib.Core.List.{List, [], _∷_, _++_, append-assoc}
 use Prim.Native.Nat.{ℕ, zero, suc, _<_, _≤_}
@@ -11,7 +11,7 @@ use lib.Dec.{T, eqb, leb}
 use borrow.Author.Tests.{leb-true, eqb-false, not-true}
 use Rattle.algebra.specs.Flags.{both-true, both-hold}
 use Rattle.refusals.specs.Rules.{Rule, _unless_, Hold, fault, numbered}
-use Rattle.refusals.specs.RuleLaws.{hold, fault-first, fault-rest, numbered-both}
+use Rattle.refusals.specs.RuleLaws.{hold, fault-none, fault-here, fault-past, fault-first, fault-rest, numbered-both}
 
 -- the numbers rise from l on, or stay
 abbrev pub rising : ℕ → List Rule → Bool
@@ -170,3 +170,27 @@ unfolding fault
 fault-lacks k [] ne f e = ne (sym e)
 fault-lacks k ((n unless true) ∷ rules) ne f e = fault-lacks k rules ne (both-true (not (eqb n k)) (lacks k rules) f .1) e
 fault-lacks k ((n unless false) ∷ rules) ne f e = eqb-false n k (not-true (eqb n k) (both-true (not (eqb n k)) (lacks k rules) f .0)) e
+
+-- so k is not the lowest that applies
+pub not-lowest : {k : ℕ} {rules : List Rule} → Lowest k rules → lacks k rules ≡ true → ⊥
+not-lowest {k} {rules} L l = none rules (L .fails) l
+  where
+    none : (rules : List Rule) → Fails k rules → lacks k rules ≡ true → ⊥
+    none ((n unless t) ∷ rules) (inl (is, _)) l = eqb-false n k (not-true (eqb n k) (both-true (not (eqb n k)) (lacks k rules) l .0)) is
+    none ((n unless t) ∷ rules) (inr later) l = none rules later (both-true (not (eqb n k)) (lacks k rules) l .1)
+
+-- a number that a single rule has is given exactly where the rules before that one hold and it does not
+pub fault-exactly : (rules : List Rule) (k : ℕ) (t : Bool) (more : List Rule) → T (numbered rules) → k ≢ 0
+    → lacks k rules ≡ true → lacks k more ≡ true → (fault (rules ++ (k unless t) ∷ more) ≡ k) ↔ (Hold rules × (t ≡ false))
+fault-exactly rules k t more are ne before after = (
+  λ e. passed e (ℕ-discrete (fault rules) 0),
+  λ h. fault-rest rules ((k unless t) ∷ more) are (fault-none rules (h .0)) ∙ fault-here k more (h .1),
+)
+  where
+    failing : (b : Bool) → t ≡ b → fault ((k unless t) ∷ more) ≡ k → t ≡ false
+    failing true is e = absurd (fault-lacks k more ne after (sym (fault-past k more is refl) ∙ e))
+    failing false is e = is
+
+    passed : fault (rules ++ (k unless t) ∷ more) ≡ k → Dec (fault rules ≡ 0) → Hold rules × (t ≡ false)
+    passed e (yes z) = (hold rules are z, failing t refl (sym (fault-rest rules ((k unless t) ∷ more) are z) ∙ e))
+    passed e (no due) = absurd (fault-lacks k rules ne before (sym (fault-first rules ((k unless t) ∷ more) due) ∙ e))

@@ -1,8 +1,6 @@
 -- What the field's public calls answer, for every input: the number of the first rule that does not hold, or the element.
-use mathlib.Core.Bool.{not}
 use mathlib.Core.List.{List, [], _∷_, _++_}
 use Prim.Native.Nat.{ℕ}
-use lib.Dec.{eqb}
 use Rattle.algebra.specs.Xor.{_⊕_}
 use Rattle.field.specs.declared.Answer.{Answer}
 use Rattle.field.specs.declared.Answer.the-variants.{Element, Refused}
@@ -26,9 +24,6 @@ sumAnswer m a b = unless-refused (pairFault m a b) Refused (Element (a ⊕ b))
 unfoldable pub productAnswer : ℕ → ℕ → ℕ → Answer
 productAnswer m a b = unless-refused (pairFault m a b) Refused (Element (product m (word m) a b))
 
--- the inverse of zero is 4, 01's "blank"
-unfoldable pub inverseFault : ℕ → ℕ → ℕ
-inverseFault m a = fault (elementRules m a ++ (4 unless not (eqb a 0)) ∷ [])
-
+-- the inverse of 0 is 0
 unfoldable pub inverseAnswer : ℕ → ℕ → Answer
-inverseAnswer m a = unless-refused (inverseFault m a) Refused (Element (inverse m (word m) a))
+inverseAnswer m a = unless-refused (elementFault m a) Refused (Element (inverse m (word m) a))

@@ -3,7 +3,7 @@
 -- Squaring is additive, so a power a^(2^k) and the trace a + a² + a⁴ + ⋯ are too, and what they do on all elements is known from what they do on
 -- the m powers of u. Let u^(2^m) = u; then a^(2^m) = a for every a. Let the trace of each power of u be 0 or 1, and that of some t be 1; then an
 -- idempotent e is e·Tr(t) = Tr(e·t), which is 0 or 1. For a ≠ 0 the product a·a²⋯a^(2^(m−1)) is idempotent and keeps a, so it is 1, and
--- a²⋯a^(2^(m−1)) is the inverse of a.
+-- a²⋯a^(2^(m−1)) is the inverse of a. For a = 0 it is 0.
 use mathlib.Core.Path.{_≡_, refl, sym, ap, ap₂, _∙_, subst}
 use mathlib.Core.Logic.{_≢_}
 use Prim.Native.Nat.{ℕ, zero, suc, pred, _+_, _*_, _/_, _%_, _^_, _≤_, _<_}
@@ -223,3 +223,11 @@ module _ (m w : ℕ) (G : IsField m w) where
   pub inverse-lt : (a : ℕ) → inverse m w a < 2 ^ m
   unfolding inverse
   inverse-lt a = squares-lt (pred m) a
+
+  squares-zero : (k : ℕ) → squares m w (suc k) 0 ≡ 0
+  unfolding squares
+  squares-zero k = ap (λ (b : ℕ). b · squares m w k b) (zero-product 0) ∙ zero-product (squares m w k 0)
+
+  pub inverse-zero : inverse m w 0 ≡ 0
+  unfolding inverse
+  inverse-zero = ap (λ (k : ℕ). squares m w k 0) (omega (arith, G .two)) ∙ squares-zero (pred (pred m))

@@ -28,6 +28,6 @@ unfoldable pub squares : ℕ → ℕ → ℕ → ℕ → ℕ
 squares m w zero a = 1
 squares m w (suc k) a = let b = product m w a a in product m w b (squares m w k b)
 
--- a^(2^m − 2), since 2 + 4 + ⋯ + 2^(m−1) is 2^m − 2
+-- a^(2^m − 2), since 2 + 4 + ⋯ + 2^(m−1) is 2^m − 2: 0 for 0, and the inverse for every other element
 unfoldable pub inverse : ℕ → ℕ → ℕ → ℕ
 inverse m w a = squares m w (pred m) a

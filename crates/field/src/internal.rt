@@ -56,7 +56,7 @@ pub fn product(m: u32, a: Elem, b: Elem) -> Elem
     sum as Elem
 }
 
-// a^(2^m − 2), which is the inverse of every element but 0: the product of a², a⁴, .., a^(2^(m−1)).
+// a^(2^m − 2), the product of a², a⁴, .., a^(2^(m−1)): the inverse of every element but 0, and 0 for 0.
 pub fn inverse(m: u32, a: Elem) -> Elem
     requires { ⌜ Width m × (a < 2 ^ m) ⌝ }
     ensures { λ r. ⌜ (r ≡ inverse m (word m) a) × (r < 2 ^ m) ⌝ }

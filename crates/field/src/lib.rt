@@ -42,9 +42,6 @@ pub fn inverse(m: u32, a: u32) -> Answer
     if number != 0 {
         return Answer::Refused(number);
     }
-    if a == 0 {
-        return Answer::Refused(refusals::ZERO);
-    }
     Answer::Element(internal::inverse(m, a as Elem))
 }
 

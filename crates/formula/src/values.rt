@@ -64,7 +64,7 @@ pub fn multiply(m: u32, value: &mut [Elem], other: &[Elem])
     dyadic::add_product(m, &room[..s], other, value);
 }
 
-// The inverse, and whether there is one: without one the value becomes zeros, since 0 takes the place of the inverse of 0.
+// The inverse, and whether there is one: without one the value becomes zeros, since the inverse of 0 is 0.
 pub fn invert(m: u32, value: &mut [Elem]) -> bool
     requires { ⌜ Width m × Elements m (now value) ⌝ }
     ensures { λ r. ⌜ r ≡ isInvertible m (now (value .entry)) ⌝ }

@@ -12,7 +12,7 @@ pub const LENGTH: u32 = 2;
 // An element or an offset is 2^m or more: 01's "stranger".
 pub const RANGE: u32 = 3;
 
-// A zero where its inverse is asked for: 01's "blank".
+// A zero in a code's signature: 01's "blank".
 pub const ZERO: u32 = 4;
 
 // The rule for 1/h fails for some i and j: 01's "crossed".

@@ -66,7 +66,7 @@ pub fn times(m: u32, a: Elem, b: Elem) -> Elem {
 
 /// 1/a for a nonzero element: the one element whose product with a is 1.
 pub fn reciprocal(m: u32, a: Elem) -> Elem {
-    assert!(a != 0, "zero has no inverse");
+    assert!(a != 0, "no product with zero is one");
     tables(m).reciprocals[usize::from(a)]
 }
 
@@ -91,10 +91,11 @@ pub fn product(m: u32, a: u32, b: u32) -> Result<u32, u32> {
     Ok(times(m, a as Elem, b as Elem).into())
 }
 
+/// 1/a, and 0 for 0.
 pub fn inverse(m: u32, a: u32) -> Result<u32, u32> {
     judge(m, &[a])?;
     if a == 0 {
-        return Err(4);
+        return Ok(0);
     }
     Ok(reciprocal(m, a as Elem).into())
 }
@@ -112,7 +113,7 @@ mod tests {
         assert_eq!(product(2, 2, 2), Ok(3));
         assert_eq!(product(8, 2, 128), Ok(0x1D));
         assert_eq!(sum(4, 16, 0), Err(3));
-        assert_eq!(inverse(4, 0), Err(4));
+        assert_eq!(inverse(4, 0), Ok(0));
     }
 
     #[test]

@@ -75,7 +75,7 @@ fn judge_signature(m: u32, h: &[Elem]) -> Result<(), u32> {
 /// tried. The signature's first row then leaves one choice for each L_j, and its first column one for each z_i.
 pub fn cauchy_sequences(m: u32, h: &[Elem]) -> Option<(Vec<Elem>, Vec<Elem>)> {
     if h.contains(&0) {
-        return None; // 1/x is never zero
+        return None; // z_i + L_j is never zero, so neither is its inverse
     }
     let distinct = |list: &[Elem]| (0..list.len()).all(|i| !list[..i].contains(&list[i]));
     let found = (0..field::size(m)).find_map(|first| {
