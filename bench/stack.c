@@ -10,11 +10,12 @@
 #include <string.h>
 #include "zovunelith.h"
 
-enum { M = 8, N = 128, T = 8, CHOSEN = 12, LENGTH = CHOSEN * T, STACK = 1 << 17, PAINT = 0xA5, MARGIN = 96 };
+enum { M = 16, N = 512, T = 16, CHOSEN = 24, LENGTH = CHOSEN * T, STACK = 1 << 20, PAINT = 0xA5, MARGIN = 96 };
 
 static zov_elem h[N], roots[N], support[N], block[N], syndrome[T];
 static uint8_t roles[N], message[N], word[N], received[N], repaired[N];
-static char text[2048], listing[4096];
+/* Two lines of a sheet and the 0 that ends a string; the longest listing. */
+static char text[(4 * 6 + 1) + (N * 6 + 1) + 1], listing[(6 * 6 + 1) + N * (4 * 6 + 1)];
 static size_t text_length;
 static int k;
 
@@ -133,7 +134,7 @@ static size_t used(const struct call *call) {
 
 int main(void) {
     for (int i = 0; i < N; i++)
-        h[i] = (zov_elem)zov_field_inverse(M, 128 ^ i); /* 1/h_i is i with its top bit set: an accepted signature */
+        h[i] = (zov_elem)zov_field_inverse(M, N ^ i); /* 1/h_i is i with a further bit set: an accepted signature */
     for (int i = 0; i < CHOSEN; i++) {
         blocks[i] = N / T - 1 - i;
         shifts[i] = i % T;
@@ -147,12 +148,12 @@ int main(void) {
     write_row();
     memcpy(received, word, N);
     for (int i = 0; i < T; i++)
-        received[i * 16] ^= 1;
+        received[i * (N / T)] ^= 1;
     for (int i = 0; i < STEPS * N; i++)
-        turned[i] = i % 16 == 0; /* as received */
-    text_length = sprintf(text, "%4d%4d%4d%4d\n", M, N, T, 0);
+        turned[i] = i % (N / T) == 0; /* as received */
+    text_length = sprintf(text, "%6d%6d%6d%6d\n", M, N, T, 0);
     for (int i = 0; i < N; i++)
-        text_length += sprintf(text + text_length, "%4d", h[i]);
+        text_length += sprintf(text + text_length, "%6d", h[i]);
     text_length += sprintf(text + text_length, "\n");
 
     printf("| call | stack, bytes |\n|---|---|\n");

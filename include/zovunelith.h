@@ -14,19 +14,19 @@
 extern "C" {
 #endif
 
-/* An element of a field. */
-typedef uint8_t zov_elem;
+/* An element of a field, of any width. */
+typedef uint16_t zov_elem;
 
-/* The field of 2^m elements, m from 2 to 8. Refused by 1 (m), then 3 (an element of 2^m or more). All products of a width
- * take the same number of instructions, whatever the elements are; this is counted, for many pairs, and not proved
- * (docs/PERFORMANCE.md). */
+/* The field of 2^m elements, m from 2 to 16. Refused by 1 (m), then 3 (an element of 2^m or more). All products of a
+ * width take the same number of instructions, whatever the elements are; this is counted, for many pairs, and not
+ * proved (docs/PERFORMANCE.md). */
 int32_t zov_field_sum(uint32_t m, uint32_t a, uint32_t b);
 int32_t zov_field_product(uint32_t m, uint32_t a, uint32_t b);
 
 /* The element whose product with a is 1; for 0, which has none, it is 0. Refused by 1, 3. */
 int32_t zov_field_inverse(uint32_t m, uint32_t a);
 
-/* Dyadic blocks: signatures of s elements, s a power of two from 1 to 128; `out` has s elements too. The value is 0.
+/* Dyadic blocks: signatures of s elements, s a power of two from 1 to 512; `out` has s elements too. The value is 0.
  * Refused by 1, 2 (lengths), 3, and the inverse by 9 (the elements sum to zero). All products of a width and a length
  * take the same number of instructions; this is counted, for many pairs of length 16, and not proved. */
 int32_t zov_block_sum(uint32_t m, const zov_elem *a, size_t a_length, const zov_elem *b, size_t b_length,
@@ -50,8 +50,8 @@ int32_t zov_formula(uint32_t m, const uint8_t *text, size_t text_length, const z
                     const zov_elem *b, size_t b_length, const zov_elem *c, size_t c_length,
                     const zov_elem *d, size_t d_length, zov_elem *out, size_t out_length);
 
-/* A code's parameters: width m, length n, t roots, offset omega, signature h of n elements. Refused by 1 to 7; 4 is a zero
- * in h, and is given for codes alone.
+/* A code's parameters: width m, from 2 to 16; length n, a power of two from 2 to 512; t roots, a power of two from 1 to
+ * n / 2; offset omega; signature h of n elements. Refused by 1 to 7; 4 is a zero in h, and is given for codes alone.
  * zov_check writes n roots and n support elements; the value is 0. */
 int32_t zov_check(uint32_t m, uint32_t n, uint32_t t, uint32_t omega, const zov_elem *h, size_t h_length,
                   zov_elem *roots, size_t roots_length, zov_elem *support, size_t support_length);
@@ -144,8 +144,9 @@ int32_t zov_selection_read_row(uint32_t m, uint32_t n, uint32_t t, uint32_t omeg
                                const uint8_t *received, size_t received_length,
                                uint8_t *repaired, size_t repaired_length);
 
-/* The bench sheet: a code as text of two lines, each number in four columns. The listing of that code goes to the front
- * of `out`; the value is its length, at most 2201. Refused by 13 (no sheet), 1 to 7 (its code), 2 (no room in `out`). */
+/* The bench sheet: a code as text of two lines, each number in six columns. The listing of that code goes to the front
+ * of `out`; the value is its length, at most 12837. Refused by 13 (no sheet, or an n above 512 on it), 1 to 7 (its
+ * code), 2 (no room in `out`). */
 int32_t zov_sheet(const uint8_t *text, size_t text_length, uint8_t *out, size_t out_length);
 
 #ifdef __cplusplus

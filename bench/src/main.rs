@@ -2,19 +2,23 @@
 //!
 //!     cargo run --release --offline --manifest-path bench/Cargo.toml                    times, as ratios
 //!     cargo run --release --offline --manifest-path bench/Cargo.toml instructions       instruction counts (needs valgrind)
+//!     cargo run --release --offline --manifest-path bench/Cargo.toml growth             how these grow with n and t
 //!     cargo run --release --offline --manifest-path bench/Cargo.toml steps              whether products differ in theirs
 
 mod rival;
 mod steps;
 
-use std::env;
 use std::hint::black_box;
-use std::process::{exit, Command, Output};
+use std::process::{self, exit, Command};
 use std::time::Instant;
-use zovunelith::{block, field, sheet, Code, Lamp, Row, Selection, LONGEST_RIDE};
+use std::{env, fs};
+use zovunelith::{block, field, sheet, Code, Elem, Lamp, Row, Selection, LONGEST_RIDE};
 
 /// m, n and t.
-const SHAPES: [(u32, u32, u32); 4] = [(5, 16, 2), (8, 64, 4), (8, 128, 8), (8, 128, 64)];
+type Shape = (u32, u32, u32);
+
+const SHAPES: [Shape; 7] =
+    [(5, 16, 2), (8, 64, 4), (8, 128, 8), (8, 128, 64), (11, 512, 32), (16, 512, 8), (16, 512, 256)];
 
 const CALLS: [&str; 25] = [
     "field sum",
@@ -53,6 +57,22 @@ fn times_in_a_call(call: &str) -> usize {
     }
 }
 
+/// At one width, n grows and then t.
+const GROWTH: [Shape; 9] = [
+    (11, 64, 8),
+    (11, 128, 8),
+    (11, 256, 8),
+    (11, 512, 8),
+    (11, 512, 16),
+    (11, 512, 32),
+    (11, 512, 64),
+    (11, 512, 128),
+    (11, 512, 256),
+];
+
+/// The calls whose growth is shown.
+const GROWING: [&str; 4] = ["check", "roles", "syndrome", "repair"];
+
 const FIRST_DARK: Row = Row { gear: 1, lamp: Lamp::Dark };
 
 /// Has every operation, with the signature for each of the letters.
@@ -77,7 +97,7 @@ impl Random {
 }
 
 /// A signature that is accepted: 1/h_i is i's image under a linear map of full rank, plus an element outside of it.
-fn signature(random: &mut Random, m: u32, n: u32) -> Vec<u8> {
+fn signature(random: &mut Random, m: u32, n: u32) -> Vec<Elem> {
     let mut span = vec![0_u32];
     let outside = |random: &mut Random, span: &[u32]| loop {
         let element = random.below(1 << m) as u32;
@@ -91,7 +111,7 @@ fn signature(random: &mut Random, m: u32, n: u32) -> Vec<u8> {
         span.extend(shifted);
     }
     let offset = outside(random, &span);
-    span.iter().map(|&element| field::inverse(m, element ^ offset).expect("an element") as u8).collect()
+    span.iter().map(|&element| field::inverse(m, element ^ offset).expect("an element") as Elem).collect()
 }
 
 /// Has the value computed.
@@ -131,9 +151,9 @@ impl Words {
     }
 }
 
-/// Blocks and shifts of a selection of half the code's blocks. With so few, k is small and often 0: of up to a thousand
-/// draws the first that has room for rows is taken, or the last.
-fn half_of_the_blocks(random: &mut Random, code: Code) -> (Vec<u32>, Vec<u32>) {
+/// Blocks and shifts of a selection of half the code's blocks. With so few, k is small and often 0: of these draws the
+/// first that has room for rows is taken, or the last.
+fn half_of_the_blocks(random: &mut Random, code: Code, draws: usize) -> (Vec<u32>, Vec<u32>) {
     let (count, t) = ((code.n / code.t) as usize, code.t as usize);
     let half = count / 2;
     let mut draw = || -> (Vec<u32>, Vec<u32>) {
@@ -144,7 +164,7 @@ fn half_of_the_blocks(random: &mut Random, code: Code) -> (Vec<u32>, Vec<u32>) {
         Selection { code, blocks, shifts }.write_row(FIRST_DARK, &mut vec![0; half * t]).is_ok()
     };
     let mut drawn = draw();
-    for _ in 1..1000 {
+    for _ in 1..draws {
         if carries_rows(&drawn) {
             break;
         }
@@ -159,7 +179,7 @@ struct Inputs {
     n: usize,
     t: usize,
     omega: u32,
-    h: Vec<u8>,
+    h: Vec<Elem>,
     blocks: Vec<u32>,
     shifts: Vec<u32>,
     whole: Words,
@@ -194,31 +214,32 @@ macro_rules! product_word_call {
     }};
 }
 
-/// The rival's call for the same. Each time, `begin` makes the tests of the code and of the columns anew; it gives the
-/// inverses of the signature and the words over the columns.
+/// The rival's call for the same. Each time, `begin` makes the tests of the code and of the columns anew; it writes the
+/// inverses of the signature and gives the words over the columns.
 fn rival_word_call<'a, Column: Fn(usize) -> usize>(
-    begin: impl Fn() -> ([u8; 128], rival::Words<'a, Column>) + 'a,
+    begin: impl Fn(&mut [Elem]) -> rival::Words<'a, Column> + 'a,
     words: &'a Words,
     call: &str,
 ) -> Option<Box<dyn FnMut() + 'a>> {
     let (mut out, mut syndrome) = (vec![0; words.length], vec![0; words.t]);
+    let mut inverses = vec![0; rival::LONGEST];
     Some(match call {
-        "roles" => Box::new(move || keep(begin().1.roles(&mut out))),
-        "syndrome" => Box::new(move || begin().1.syndrome(&words.received, &mut syndrome)),
-        "encode" => Box::new(move || begin().1.encode(&words.message, &mut out)),
-        "message" => Box::new(move || begin().1.message(&words.word, &mut out[..words.k])),
+        "roles" => Box::new(move || keep(begin(&mut inverses).roles(&mut out))),
+        "syndrome" => Box::new(move || begin(&mut inverses).syndrome(&words.received, &mut syndrome)),
+        "encode" => Box::new(move || begin(&mut inverses).encode(&words.message, &mut out)),
+        "message" => Box::new(move || begin(&mut inverses).message(&words.word, &mut out[..words.k])),
         "repair" => Box::new(move || {
-            let (inverses, columns) = begin();
+            let columns = begin(&mut inverses);
             black_box(columns.repair(&inverses, &words.received, &mut out).expect("t places"));
         }),
         "write row" => {
             words.row_received.as_deref()?;
-            Box::new(move || begin().1.write_row(1, 0, &mut out))
+            Box::new(move || begin(&mut inverses).write_row(1, 0, &mut out))
         }
         "read row" => {
             let received = words.row_received.as_deref()?;
             Box::new(move || {
-                let (inverses, columns) = begin();
+                let columns = begin(&mut inverses);
                 black_box(columns.read_row(&inverses, received, &mut out).expect("t places"));
             })
         }
@@ -226,8 +247,13 @@ fn rival_word_call<'a, Column: Fn(usize) -> usize>(
     })
 }
 
+/// A line of a sheet or of a listing.
+fn line(numbers: &[u32]) -> String {
+    numbers.iter().map(|number| format!("{number:>6}")).collect::<String>() + "\n"
+}
+
 impl Inputs {
-    fn new((m, n, t): (u32, u32, u32)) -> Inputs {
+    fn new((m, n, t): Shape) -> Inputs {
         let mut random = Random(u64::from(m * 1000 + n + t));
         let h = signature(&mut random, m, n);
         let omega = random.below(1 << m) as u32;
@@ -236,9 +262,10 @@ impl Inputs {
         // The whole code is the selection of all its blocks.
         let all: Vec<u32> = (0..count).collect();
         let whole = Words::new(&mut random, Selection { code, blocks: &all, shifts: &vec![0; all.len()] });
-        let (blocks, shifts) = half_of_the_blocks(&mut random, code);
+        // A selection's k is never above the whole code's.
+        let draws = if whole.row_received.is_some() { 1000 } else { 1 };
+        let (blocks, shifts) = half_of_the_blocks(&mut random, code, draws);
         let selected = Words::new(&mut random, Selection { code, blocks: &blocks, shifts: &shifts });
-        let line = |numbers: &[u32]| numbers.iter().map(|number| format!("{number:>4}")).collect::<String>() + "\n";
         let entries: Vec<u32> = h.iter().map(|&entry| entry.into()).collect();
         let text = (line(&[m, n, t, omega]) + &line(&entries)).into_bytes();
         let field = rival::Field::new(m);
@@ -254,7 +281,7 @@ impl Inputs {
     }
 
     fn rival(&self) -> rival::Code<'_> {
-        rival::Code { field: &self.field, t: self.t, omega: self.omega as u8, h: &self.h }
+        rival::Code { field: &self.field, t: self.t, omega: self.omega as Elem, h: &self.h }
     }
 
     /// The product's call, to be made again and again; none where the shape has no such call.
@@ -293,13 +320,16 @@ impl Inputs {
     /// The rival's call for the same.
     fn rival_call(&self, call: &str) -> Option<Box<dyn FnMut() + '_>> {
         let code = self.rival();
-        let check = move || black_box(code.check()).expect("accepted");
+        let check = move |inverses: &mut [Elem]| black_box(code.check(inverses)).expect("accepted");
         if let Some(call) = call.strip_prefix("selection ") {
-            let columns = move || code.selected(&self.blocks, &self.shifts).expect("blocks");
-            return rival_word_call(move || (check(), columns()), &self.selected, call);
+            let begin = move |inverses: &mut [Elem]| {
+                check(inverses);
+                code.selected(&self.blocks, &self.shifts).expect("blocks")
+            };
+            return rival_word_call(begin, &self.selected, call);
         }
         let (n, a, b) = (self.n, self.h[0], self.h[1]);
-        let mut out = vec![0; n];
+        let (mut out, mut inverses) = (vec![0; n], vec![0; n]);
         Some(match call {
             "field sum" => Box::new(move || keep(black_box(a) ^ b)),
             "field product" => Box::new(move || keep(self.field.product(black_box(a), b))),
@@ -312,28 +342,36 @@ impl Inputs {
             "formula" => Box::new(move || {
                 rival::formula(&self.field, FORMULA, [&self.h; 4], &mut out).expect("inverses");
             }),
-            "check" => Box::new(move || keep(code.check().expect("accepted"))),
+            "check" => Box::new(move || check(&mut inverses)),
             "same" => Box::new(move || {
-                black_box((code.check(), code.check()));
+                check(&mut inverses);
+                check(&mut inverses);
                 let card = (self.m, code.t, code.omega, code.h);
                 black_box(card == black_box(card));
             }),
             "step of a ride" => {
                 self.whole.row_received.as_deref()?;
                 // Before what is timed: a ride does this once, and not in each step.
-                let (inverses, columns) = (check(), code.whole());
+                check(&mut inverses);
+                let columns = code.whole();
                 let (basis, marks) = (columns.basis(), &self.whole.marks);
-                let mut repaired = vec![0; n];
+                let (mut word, mut repaired) = (vec![0; n], vec![0; n]);
                 Box::new(move || {
                     for _ in 0..LONGEST_RIDE {
-                        basis.write_row(1, 0, &mut out);
-                        out.iter_mut().zip(marks).for_each(|(bit, mark)| *bit ^= mark);
-                        black_box(columns.read_row_by(&basis, &inverses, &out, &mut repaired).expect("t places"));
+                        basis.write_row(1, 0, &mut word);
+                        word.iter_mut().zip(marks).for_each(|(bit, mark)| *bit ^= mark);
+                        black_box(columns.read_row_by(&basis, &inverses, &word, &mut repaired).expect("t places"));
                     }
                 })
             }
             "sheet" => Box::new(move || keep(rival_listing(&self.field, &self.text))),
-            _ => return rival_word_call(move || (check(), code.whole()), &self.whole, call),
+            _ => {
+                let begin = move |inverses: &mut [Elem]| {
+                    check(inverses);
+                    code.whole()
+                };
+                return rival_word_call(begin, &self.whole, call);
+            }
         })
     }
 }
@@ -343,12 +381,11 @@ fn rival_listing(field: &rival::Field, text: &[u8]) -> String {
     let text = std::str::from_utf8(text).expect("plain text");
     let numbers: Vec<u32> = text.split_whitespace().map(|number| number.parse().expect("a number")).collect();
     let (first, h) = numbers.split_at(4);
-    let h: Vec<u8> = h.iter().map(|&entry| entry as u8).collect();
-    let code = rival::Code { field, t: first[2] as usize, omega: first[3] as u8, h: &h };
-    let inverses = code.check().expect("accepted");
-    let mut roles = vec![0; h.len()];
+    let h: Vec<Elem> = h.iter().map(|&entry| entry as Elem).collect();
+    let code = rival::Code { field, t: first[2] as usize, omega: first[3] as Elem, h: &h };
+    let (mut inverses, mut roles) = (vec![0; h.len()], vec![0; h.len()]);
+    code.check(&mut inverses).expect("accepted");
     let k = code.whole().roles(&mut roles);
-    let line = |numbers: &[u32]| numbers.iter().map(|number| format!("{number:>4}")).collect::<String>() + "\n";
     let mut listing = line(&[first[0], first[1], first[2], first[3], first[1] - k, k]);
     for j in 0..h.len() {
         let support = inverses[j] ^ inverses[0] ^ code.omega;
@@ -396,59 +433,107 @@ fn zov_bench_counted(call: &mut dyn FnMut()) {
     call();
 }
 
-/// Makes one call, of the product or of the rival, under `zov_bench_counted`.
-fn once(side: &str, call: &str, shape: usize) {
-    let inputs = Inputs::new(SHAPES[shape]);
-    let made = if side == "product" { inputs.product_call(call) } else { inputs.rival_call(call) };
-    if let Some(mut made) = made {
-        zov_bench_counted(&mut made);
+/// Makes calls, each once, under `zov_bench_counted`, and prints a line for each: how often it did what is counted, or
+/// 0 where the shape has no such call.
+fn make(shape: Shape, names: &[&str]) {
+    let inputs = Inputs::new(shape);
+    for name in names {
+        let (call, made) = match name.strip_prefix("rival ") {
+            Some(call) => (call, inputs.rival_call(call)),
+            None => (*name, inputs.product_call(name)),
+        };
+        let times = made.map_or(0, |mut made| {
+            zov_bench_counted(&mut made);
+            times_in_a_call(call)
+        });
+        println!("{times}");
     }
 }
 
-/// This program once more, with these arguments, under callgrind.
-fn under_callgrind(options: &[&str], arguments: &[&str]) -> Output {
+/// Has glibc clear and copy large buffers by vectors. It would take one repeated instruction, which callgrind counts
+/// for each byte.
+const BY_VECTORS: &str = "glibc.cpu.x86_rep_stosb_threshold=0x7fffffff:glibc.cpu.x86_rep_movsb_threshold=0x7fffffff";
+
+/// This program once more, with these arguments, under callgrind: what it prints, and the instructions of each call of
+/// a function. Callgrind counts inside the function alone, and starts anew after each call.
+fn under_callgrind(symbol: &str, arguments: &[&str]) -> (String, Vec<u64>) {
     let itself = env::current_exe().expect("this program has a path");
-    let output = Command::new("valgrind").arg("--tool=callgrind").args(options).arg(itself).args(arguments).output();
-    output.unwrap_or_else(|_| {
+    let path = env::temp_dir().join(format!("zovunelith-bench-{}", process::id()));
+    let options = [
+        "--tool=callgrind".to_string(),
+        format!("--callgrind-out-file={}", path.display()),
+        "--combine-dumps=yes".to_string(),
+        format!("--toggle-collect={symbol}"),
+        format!("--dump-after={symbol}"),
+    ];
+    let mut command = Command::new("valgrind");
+    command.args(options).arg(itself).args(arguments).env("GLIBC_TUNABLES", BY_VECTORS);
+    let output = command.output().unwrap_or_else(|_| {
         eprintln!("stopped: instruction counts need valgrind");
         exit(1);
-    })
+    });
+    assert!(output.status.success(), "{}", String::from_utf8_lossy(&output.stderr));
+    let report = fs::read_to_string(&path).expect("what callgrind has counted");
+    fs::remove_file(&path).expect("callgrind's file");
+    let totals = report.lines().filter_map(|line| line.strip_prefix("totals: "));
+    let mut counts: Vec<u64> = totals.map(|total| total.parse().expect("a number")).collect();
+    assert_eq!(counts.pop(), Some(0), "instructions are counted after the last call");
+    (String::from_utf8(output.stdout).expect("plain text"), counts)
 }
 
-fn count(side: &str, call: &str, shape: usize) -> Option<u64> {
-    let options = ["--callgrind-out-file=/dev/null", "--toggle-collect=zov_bench_counted"];
-    let output = under_callgrind(&options, &["once", side, call, &shape.to_string()]);
-    let report = String::from_utf8_lossy(&output.stderr).into_owned();
-    let total = report.lines().find_map(|line| line.split("Collected :").nth(1))?;
-    let total: u64 = total.trim().parse().ok()?;
-    Some(total / times_in_a_call(call) as u64)
+/// The instructions of these calls or, of a ride, of a step, where the shape has such a call.
+fn counted((m, n, t): Shape, names: &[&str]) -> Vec<Option<u64>> {
+    let numbers = [m, n, t].map(|number| number.to_string());
+    let mut arguments = vec!["calls"];
+    arguments.extend(numbers.iter().map(String::as_str));
+    arguments.extend(names);
+    let (printed, counts) = under_callgrind("zov_bench_counted", &arguments);
+    let mut counts = counts.into_iter();
+    let mut each = |times: u64| (times > 0).then(|| counts.next().expect("each call is counted") / times);
+    printed.lines().map(|times| each(times.parse().expect("a number"))).collect()
 }
 
 fn instructions() {
     println!("| call | m, n, t | product | rival | ratio |");
     println!("|---|---|---|---|---|");
-    for (index, (m, n, t)) in SHAPES.into_iter().enumerate() {
-        for call in CALLS {
-            if let (Some(product), Some(rival)) = (count("product", call, index), count("rival", call, index)) {
-                if product > 0 {
-                    println!("| {call} | {m}, {n}, {t} | {product} | {rival} | {:.2} |", product as f64 / rival as f64);
-                }
+    let rivals = CALLS.map(|call| format!("rival {call}"));
+    let names: Vec<&str> = CALLS.into_iter().chain(rivals.iter().map(String::as_str)).collect();
+    for shape in SHAPES {
+        let (m, n, t) = shape;
+        let counts = counted(shape, &names);
+        let (products, rivals) = counts.split_at(CALLS.len());
+        for (call, sides) in CALLS.iter().zip(products.iter().zip(rivals)) {
+            if let (&Some(product), &Some(rival)) = sides {
+                println!("| {call} | {m}, {n}, {t} | {product} | {rival} | {:.2} |", product as f64 / rival as f64);
             }
         }
+    }
+}
+
+/// The product's instructions as n grows, and as t grows.
+fn growth() {
+    println!("| n, t | {} |", GROWING.join(" | "));
+    println!("|---|{}", "---|".repeat(GROWING.len()));
+    for shape in GROWTH {
+        let counts = counted(shape, &GROWING).into_iter().map(|count| count.expect("every shape has the call"));
+        let counts: Vec<String> = counts.map(|count| count.to_string()).collect();
+        println!("| {}, {} | {} |", shape.1, shape.2, counts.join(" | "));
     }
 }
 
 fn main() {
     let arguments: Vec<String> = env::args().skip(1).collect();
     let arguments: Vec<&str> = arguments.iter().map(String::as_str).collect();
+    let number = |text: &str| -> u32 { text.parse().expect("a number") };
     match arguments[..] {
         [] => times(),
         ["instructions"] => instructions(),
-        ["once", side, call, shape] => once(side, call, shape.parse().expect("the index of a shape")),
+        ["growth"] => growth(),
+        ["calls", m, n, t, ref names @ ..] => make((number(m), number(n), number(t)), names),
         ["steps"] => steps::table(),
-        ["products", name, m] => steps::make(name, m.parse().expect("a width")),
+        ["products", name, m] => steps::make(name, number(m)),
         _ => {
-            eprintln!("usage: zovunelith-bench [instructions | steps]");
+            eprintln!("usage: zovunelith-bench [instructions | growth | steps]");
             exit(2);
         }
     }

@@ -1,87 +1,85 @@
 //! An unproved implementation for comparison: products by tables of logarithms, formulas by recursive descent, rows of
-//! the parity check matrix in one u128 each, and the same pass for repair. It makes the same tests as the product's calls.
+//! the parity check matrix packed into 64-bit words, and the same pass for repair. It makes the same tests as the
+//! product's calls.
 
-/// The field of 2^m elements by its logarithms.
+use std::borrow::Cow;
+use std::ops::Range;
+use zovunelith::Elem;
+
+/// The longest word, and the longest block.
+pub const LONGEST: usize = 512;
+
+/// The most roots of a code.
+const MOST_ROOTS: usize = LONGEST / 2;
+
+/// The reduction word of each width, at the width. All are primitive: the powers of u, the number 2, are all elements
+/// but 0.
+const WORDS: [u32; 17] =
+    [0, 0, 0x7, 0xB, 0x13, 0x25, 0x43, 0x83, 0x11D, 0x211, 0x409, 0x805, 0x1053, 0x201B, 0x4443, 0x8003, 0x1100B];
+
+/// The field of 2^m elements by its logarithms. The tables are as long as the widest field needs, so that no index has
+/// to be tested; a narrow field uses the front of them.
 pub struct Field {
     m: u32,
-    exp: [u8; 512],
-    log: [u16; 256],
+    /// The powers of u twice over, so that a sum of two logarithms is an index.
+    exp: Box<[Elem; 1 << 17]>,
+    log: Box<[u16; 1 << 16]>,
 }
-
-const WORDS: [u32; 9] = [0, 0, 0x7, 0xB, 0x13, 0x25, 0x43, 0x83, 0x11D];
 
 impl Field {
     pub fn new(m: u32) -> Field {
-        let word = WORDS[m as usize];
-        let size = 1_u32 << m;
-        let times = |a: u32, b: u32| {
-            let (mut product, mut shifted) = (0, a);
-            for bit in 0..m {
-                if b >> bit & 1 == 1 {
-                    product ^= shifted;
-                }
-                shifted <<= 1;
-                if shifted & size != 0 {
-                    shifted ^= word;
-                }
-            }
-            product
-        };
-        // The first element whose powers are all nonzero elements.
-        let generator = (2..size)
-            .find(|&g| {
-                let (mut power, mut order) = (g, 1);
-                while power != 1 {
-                    power = times(power, g);
-                    order += 1;
-                }
-                order == size - 1
-            })
-            .expect("a field has a generator");
-        let mut field = Field { m, exp: [0; 512], log: [0; 256] };
-        let mut power = 1;
-        for e in 0..size - 1 {
-            field.exp[e as usize] = power as u8;
-            field.exp[(e + size - 1) as usize] = power as u8;
+        let order = (1 << m) - 1;
+        let mut field = Field { m, exp: Box::new([0; 1 << 17]), log: Box::new([0; 1 << 16]) };
+        let mut power = 1_u32;
+        for e in 0..order {
+            field.exp[e] = power as Elem;
+            field.exp[e + order] = power as Elem;
             field.log[power as usize] = e as u16;
-            power = times(power, generator);
+            power <<= 1;
+            if power >> m != 0 {
+                power ^= WORDS[m as usize];
+            }
         }
         field
     }
 
     #[inline]
-    pub fn product(&self, a: u8, b: u8) -> u8 {
+    pub fn product(&self, a: Elem, b: Elem) -> Elem {
         if a == 0 || b == 0 {
             return 0;
         }
-        self.exp[(self.log[a as usize] + self.log[b as usize]) as usize]
+        self.exp[usize::from(self.log[usize::from(a)]) + usize::from(self.log[usize::from(b)])]
     }
 
     /// The inverse of an element other than 0.
     #[inline]
-    fn reciprocal(&self, a: u8) -> u8 {
-        self.exp[((1 << self.m) - 1 - self.log[a as usize] as u32) as usize]
+    fn reciprocal(&self, a: Elem) -> Elem {
+        self.exp[(1 << self.m) - 1 - usize::from(self.log[usize::from(a)])]
     }
 
     /// The inverse, and 0 for 0.
     #[inline]
-    pub fn inverse(&self, a: u8) -> u8 {
+    pub fn inverse(&self, a: Elem) -> Elem {
         if a == 0 {
             return 0;
         }
         self.reciprocal(a)
     }
+
+    fn has(&self, a: Elem) -> bool {
+        u32::from(a) >> self.m == 0
+    }
 }
 
 /// The product of two blocks, by the definition of the matrix product's first row.
-pub fn block_product(field: &Field, a: &[u8], b: &[u8], out: &mut [u8]) {
+pub fn block_product(field: &Field, a: &[Elem], b: &[Elem], out: &mut [Elem]) {
     for (i, entry) in out.iter_mut().enumerate() {
         *entry = (0..a.len()).fold(0, |sum, k| sum ^ field.product(a[k], b[i ^ k]));
     }
 }
 
 /// The inverse of a block; none where its elements sum to zero.
-pub fn block_inverse(field: &Field, a: &[u8], out: &mut [u8]) -> bool {
+pub fn block_inverse(field: &Field, a: &[Elem], out: &mut [Elem]) -> bool {
     let sum = a.iter().fold(0, |sum, &entry| sum ^ entry);
     if sum == 0 {
         return false;
@@ -93,9 +91,6 @@ pub fn block_inverse(field: &Field, a: &[u8], out: &mut [u8]) -> bool {
     true
 }
 
-/// The longest block.
-const LONGEST: usize = 128;
-
 /// The longest text of a formula.
 const LONGEST_TEXT: usize = 128;
 
@@ -103,9 +98,9 @@ const LONGEST_TEXT: usize = 128;
 const DEEPEST: usize = 8;
 
 /// The value of a formula; none where the product's call is refused.
-pub fn formula(field: &Field, text: &[u8], blocks: [&[u8]; 4], out: &mut [u8]) -> Option<()> {
+pub fn formula(field: &Field, text: &[u8], blocks: [&[Elem]; 4], out: &mut [Elem]) -> Option<()> {
     let length = out.len();
-    let is_block = |block: &[u8]| block.len() == length && block.iter().all(|&entry| u32::from(entry) >> field.m == 0);
+    let is_block = |block: &[Elem]| block.len() == length && block.iter().all(|&entry| field.has(entry));
     if !length.is_power_of_two() || length > LONGEST || !blocks.iter().all(|block| block.is_empty() || is_block(block))
     {
         return None;
@@ -113,20 +108,22 @@ pub fn formula(field: &Field, text: &[u8], blocks: [&[u8]; 4], out: &mut [u8]) -
     if text.len() > LONGEST_TEXT {
         return None;
     }
-    let mut formula = Formula { field, blocks, length, rest: text, open: 0, dead: false };
+    let mut formula = Formula { field, blocks, rest: text, open: 0, dead: false };
     let value = formula.sum()?;
     if !formula.rest.is_empty() || formula.dead {
         return None;
     }
-    out.copy_from_slice(&value[..length]);
+    out.copy_from_slice(&value);
     Some(())
 }
 
-/// A formula that is worked out while it is read. A value is a block at the front of an array.
+/// A block that is lent for a letter, or one that was worked out.
+type Value<'a> = Cow<'a, [Elem]>;
+
+/// A formula that is worked out while it is read.
 struct Formula<'a> {
     field: &'a Field,
-    blocks: [&'a [u8]; 4],
-    length: usize,
+    blocks: [&'a [Elem]; 4],
     /// What is left of the text.
     rest: &'a [u8],
     /// The number of open brackets.
@@ -135,7 +132,7 @@ struct Formula<'a> {
     dead: bool,
 }
 
-impl Formula<'_> {
+impl<'a> Formula<'a> {
     /// Whether the text goes on with this byte, which is then behind.
     fn take(&mut self, byte: u8) -> bool {
         let taken = self.rest.first() == Some(&byte);
@@ -143,33 +140,34 @@ impl Formula<'_> {
         taken
     }
 
-    fn sum(&mut self) -> Option<[u8; LONGEST]> {
+    fn sum(&mut self) -> Option<Value<'a>> {
         let mut sum = self.product()?;
         while self.take(b'+') {
             let added = self.product()?;
-            sum.iter_mut().zip(added).for_each(|(entry, added)| *entry ^= added);
+            sum.to_mut().iter_mut().zip(added.iter()).for_each(|(entry, added)| *entry ^= added);
         }
         Some(sum)
     }
 
-    fn product(&mut self) -> Option<[u8; LONGEST]> {
-        let mut product = self.term()?;
+    fn product(&mut self) -> Option<Value<'a>> {
+        let mut left = self.term()?;
         loop {
             let factor = if self.take(b'*') {
                 self.term()?
             } else if self.take(b'/') {
                 let divisor = self.term()?;
-                self.inverse(divisor)
+                self.inverse(&divisor)
             } else {
-                return Some(product);
+                return Some(left);
             };
-            let (left, s) = (product, self.length);
-            block_product(self.field, &left[..s], &factor[..s], &mut product[..s]);
+            let mut product = vec![0; left.len()];
+            block_product(self.field, &left, &factor, &mut product);
+            left = product.into();
         }
     }
 
-    fn term(&mut self) -> Option<[u8; LONGEST]> {
-        let mut term = [0; LONGEST];
+    fn term(&mut self) -> Option<Value<'a>> {
+        let mut term: Value;
         if self.take(b'(') {
             self.open += 1;
             if self.open > DEEPEST {
@@ -185,18 +183,18 @@ impl Formula<'_> {
             if self.blocks[letter].is_empty() {
                 return None;
             }
-            term[..self.length].copy_from_slice(self.blocks[letter]);
+            term = self.blocks[letter].into();
         }
         while self.take(b'\'') {
-            term = self.inverse(term);
+            term = self.inverse(&term);
         }
         Some(term)
     }
 
-    fn inverse(&mut self, value: [u8; LONGEST]) -> [u8; LONGEST] {
-        let mut inverse = [0; LONGEST];
-        self.dead |= !block_inverse(self.field, &value[..self.length], &mut inverse[..self.length]);
-        inverse
+    fn inverse(&mut self, value: &[Elem]) -> Value<'a> {
+        let mut inverse = vec![0; value.len()];
+        self.dead |= !block_inverse(self.field, value, &mut inverse);
+        inverse.into()
     }
 }
 
@@ -205,21 +203,21 @@ impl Formula<'_> {
 pub struct Code<'a> {
     pub field: &'a Field,
     pub t: usize,
-    pub omega: u8,
-    pub h: &'a [u8],
+    pub omega: Elem,
+    pub h: &'a [Elem],
 }
 
 impl<'a> Code<'a> {
-    /// The inverses of the signature, if it is accepted.
-    pub fn check(&self) -> Option<[u8; 128]> {
+    /// If the code is accepted, the inverses of its signature are at the front of `inverses`.
+    pub fn check(&self, inverses: &mut [Elem]) -> Option<()> {
         let n = self.h.len();
-        if !n.is_power_of_two() || !self.t.is_power_of_two() || self.t > n / 2 {
+        if !n.is_power_of_two() || n > LONGEST || !self.t.is_power_of_two() || self.t > n / 2 {
             return None;
         }
-        if self.h.iter().any(|&entry| entry == 0 || u32::from(entry) >> self.field.m != 0) {
+        if self.h.iter().any(|&entry| entry == 0 || !self.field.has(entry)) {
             return None;
         }
-        let mut inverses = [0; 128];
+        let inverses = &mut inverses[..n];
         for (inverse, &entry) in inverses.iter_mut().zip(self.h) {
             *inverse = self.field.reciprocal(entry);
         }
@@ -231,7 +229,7 @@ impl<'a> Code<'a> {
             }
         }
         let distinct = (1..n).all(|i| self.h[i] != self.h[0]);
-        distinct.then_some(inverses)
+        distinct.then_some(())
     }
 
     /// The words over all columns.
@@ -245,24 +243,48 @@ impl<'a> Code<'a> {
         if blocks.is_empty() || blocks.len() > count || shifts.len() != blocks.len() {
             return None;
         }
-        let mut named = 0_u128;
+        let mut named: Packed = [0; MOST_WORDS];
         for &block in blocks {
-            if block as usize >= count || named >> block & 1 == 1 {
+            let block = block as usize;
+            if block >= count || bit(&named, block) == 1 {
                 return None;
             }
-            named |= 1 << block;
+            mark(&mut named, block, 1);
         }
         if shifts.iter().any(|&shift| shift as usize >= self.t) {
             return None;
         }
-        let mut columns = [0_u8; 128];
-        for (b, places) in columns[..blocks.len() * self.t].chunks_mut(self.t).enumerate() {
-            for (r, column) in places.iter_mut().enumerate() {
-                *column = (blocks[b] as usize * self.t + (r ^ shifts[b] as usize)) as u8;
-            }
+        let mut columns = Vec::with_capacity(blocks.len() * self.t);
+        for (&block, &shift) in blocks.iter().zip(shifts) {
+            columns.extend((0..self.t).map(|r| block as usize * self.t + (r ^ shift as usize)));
         }
-        Some(Words { code: self, length: blocks.len() * self.t, column: move |place: usize| columns[place].into() })
+        Some(Words { code: self, length: columns.len(), column: move |place: usize| columns[place] })
     }
+}
+
+/// The places in a word of a packed row.
+const PLACES: usize = u64::BITS as usize;
+
+/// The words of the longest row.
+const MOST_WORDS: usize = LONGEST / PLACES;
+
+/// A row of bits, the first place in the lowest bit of the first word.
+type Packed = [u64; MOST_WORDS];
+
+/// The places of a word, in a row of so many.
+fn places(word: usize, length: usize) -> Range<usize> {
+    word * PLACES..length.min((word + 1) * PLACES)
+}
+
+#[inline]
+fn bit(row: &[u64], place: usize) -> u64 {
+    row[place / PLACES] >> (place % PLACES) & 1
+}
+
+/// Sets a bit that was 0.
+#[inline]
+fn mark(row: &mut [u64], place: usize, bit: u64) {
+    row[place / PLACES] |= bit << (place % PLACES);
 }
 
 /// The words over some columns of a code, place j of a word being column `column(j)`.
@@ -272,73 +294,105 @@ pub struct Words<'a, Column> {
     column: Column,
 }
 
-/// An echelon basis of the parity rows by their leftmost one, bit j for place j. Its rows stand at their leading places;
-/// the other places, which hold zero, are those of the message.
-pub struct Basis([u128; 128]);
+/// An echelon basis of the parity rows by their leftmost one. Its rows stand at their leading places; the other places
+/// are those of the message. Rows have no more words than their places need.
+pub struct Basis {
+    words: usize,
+    rows: Vec<u64>,
+    /// 1 for each leading place.
+    leads: Packed,
+}
 
 impl Basis {
-    fn encode(&self, message: &[u8], word: &mut [u8]) {
-        let Basis(basis) = self;
-        let mut packed = 0_u128;
-        let mut taken = 0;
-        for place in 0..word.len() {
-            if basis[place] == 0 {
-                packed |= u128::from(message[taken]) << place;
-                taken += 1;
+    fn leads(&self, place: usize) -> bool {
+        bit(&self.leads, place) == 1
+    }
+
+    /// The places of the message.
+    fn free(&self, length: usize) -> impl Iterator<Item = usize> + '_ {
+        (0..length).filter(|&place| !self.leads(place))
+    }
+
+    /// Brings a row in, which is used up, and says whether the basis has one row more.
+    fn insert(&mut self, row: &mut [u64]) -> bool {
+        for w in 0..self.words {
+            while row[w] != 0 {
+                let lead = w * PLACES + row[w].trailing_zeros() as usize;
+                let leading = &mut self.rows[lead * self.words..][..self.words];
+                if bit(&self.leads, lead) == 0 {
+                    mark(&mut self.leads, lead, 1);
+                    leading.copy_from_slice(row);
+                    return true;
+                }
+                // The words before this one are zero in both.
+                row[w..].iter_mut().zip(&leading[w..]).for_each(|(bits, added)| *bits ^= added);
             }
         }
-        for place in (0..word.len()).rev() {
-            if basis[place] != 0 && (basis[place] & packed).count_ones() % 2 == 1 {
-                packed |= 1 << place;
-            }
+        false
+    }
+
+    fn encode(&self, message: impl IntoIterator<Item = u8>, word: &mut [u8]) {
+        let mut packed: Packed = [0; MOST_WORDS];
+        for (place, bit) in self.free(word.len()).zip(message) {
+            mark(&mut packed, place, bit.into());
         }
-        for (place, bit) in word.iter_mut().enumerate() {
-            *bit = (packed >> place & 1) as u8;
+        // The other places, from right to left.
+        for w in (0..self.words).rev() {
+            let (mut bits, later) = (packed[w], &packed[w + 1..]);
+            for place in places(w, word.len()).rev().filter(|&place| self.leads(place)) {
+                let row = &self.rows[place * self.words + w..][..self.words - w];
+                let sum = row[1..].iter().zip(later).fold(row[0] & bits, |sum, (row, word)| sum ^ (row & word));
+                bits |= u64::from(sum.count_ones() % 2) << (place % PLACES);
+            }
+            packed[w] = bits;
+        }
+        for (place, entry) in word.iter_mut().enumerate() {
+            *entry = bit(&packed, place) as u8;
         }
     }
 
-    fn message(&self, word: &[u8], message: &mut [u8]) {
-        let free = (0..word.len()).filter(|&place| self.0[place] == 0);
-        for (bit, place) in message.iter_mut().zip(free) {
-            *bit = word[place];
-        }
+    fn message<'a>(&'a self, word: &'a [u8]) -> impl Iterator<Item = u8> + 'a {
+        self.free(word.len()).map(|place| word[place])
     }
 
+    /// The bits of the message after these five are 0.
     pub fn write_row(&self, gear: u8, lamp: u8, word: &mut [u8]) {
-        let mut message = [0; 128];
-        for (place, bit) in message[..5].iter_mut().enumerate() {
-            *bit = (gear | lamp << 3) >> place & 1;
-        }
-        self.encode(&message, word);
+        self.encode((0..5).map(|place| (gear | lamp << 3) >> place & 1), word);
     }
 }
 
 impl<Column: Fn(usize) -> usize> Words<'_, Column> {
     /// The entry of the parity check matrix in row i at a place.
-    fn entry(&self, i: usize, place: usize) -> u8 {
+    fn entry(&self, i: usize, place: usize) -> Elem {
         self.code.h[i ^ (self.column)(place)]
     }
 
-    pub fn syndrome(&self, word: &[u8], out: &mut [u8]) {
+    pub fn syndrome(&self, word: &[u8], out: &mut [Elem]) {
         for (i, row) in out.iter_mut().enumerate() {
             *row = (0..word.len()).fold(0, |sum, j| if word[j] == 1 { sum ^ self.entry(i, j) } else { sum });
         }
     }
 
+    /// Bit b of the entries of row i, over the places.
+    fn parity_row(&self, i: usize, b: u32, row: &mut [u64]) {
+        for (w, bits) in row.iter_mut().enumerate() {
+            let entries = places(w, self.length).rev().map(|j| self.entry(i, j));
+            *bits = entries.fold(0, |bits, entry| bits << 1 | u64::from(entry >> b & 1));
+        }
+    }
+
     pub fn basis(&self) -> Basis {
-        let mut basis = Basis([0; 128]);
+        let words = self.length.div_ceil(PLACES);
+        let mut basis = Basis { words, rows: vec![0; self.length * words], leads: [0; MOST_WORDS] };
+        let (mut row, mut rank) = ([0; MOST_WORDS], 0);
         for i in 0..self.code.t {
-            for bit in 0..self.code.field.m {
-                let mut row =
-                    (0..self.length).fold(0_u128, |row, j| row | u128::from(self.entry(i, j) >> bit & 1) << j);
-                while row != 0 {
-                    let lead = row.trailing_zeros() as usize;
-                    if basis.0[lead] == 0 {
-                        basis.0[lead] = row;
-                        break;
-                    }
-                    row ^= basis.0[lead];
+            for b in 0..self.code.field.m {
+                // Where a row leads at each place, the rest says nothing new.
+                if rank == self.length {
+                    return basis;
                 }
+                self.parity_row(i, b, &mut row[..words]);
+                rank += usize::from(basis.insert(&mut row[..words]));
             }
         }
         basis
@@ -346,35 +400,35 @@ impl<Column: Fn(usize) -> usize> Words<'_, Column> {
 
     pub fn roles(&self, out: &mut [u8]) -> u32 {
         let basis = self.basis();
-        for (role, &row) in out.iter_mut().zip(&basis.0) {
-            *role = u8::from(row == 0);
+        for (place, role) in out.iter_mut().enumerate() {
+            *role = u8::from(!basis.leads(place));
         }
         out.iter().map(|&role| u32::from(role)).sum()
     }
 
     pub fn encode(&self, message: &[u8], word: &mut [u8]) {
-        self.basis().encode(message, word);
+        self.basis().encode(message.iter().copied(), word);
     }
 
     pub fn message(&self, word: &[u8], message: &mut [u8]) {
-        self.basis().message(word, message);
+        message.iter_mut().zip(self.basis().message(word)).for_each(|(entry, bit)| *entry = bit);
     }
 
-    fn evaluate(&self, half: &[u8], y: u8) -> u8 {
+    fn evaluate(&self, half: &[Elem], y: Elem) -> Elem {
         half.iter().rev().fold(0, |value, &coefficient| self.code.field.product(value, y) ^ coefficient)
     }
 
     /// The number of places turned, if the word can be repaired.
-    pub fn repair(&self, inverses: &[u8; 128], received: &[u8], repaired: &mut [u8]) -> Option<u32> {
+    pub fn repair(&self, inverses: &[Elem], received: &[u8], repaired: &mut [u8]) -> Option<u32> {
         let Code { field, t, omega, .. } = self.code;
-        let mut syndrome = [0; 64];
+        let mut syndrome = [0; MOST_ROOTS];
         self.syndrome(received, &mut syndrome[..t]);
         if syndrome[..t].iter().all(|&row| row == 0) {
             repaired.copy_from_slice(received);
             return Some(0);
         }
         // Two pairs of halves, the even one first, and the bounds of their degrees.
-        let mut pairs = [[[0_u8; 66]; 2]; 2];
+        let mut pairs = [[[0; MOST_ROOTS + 2]; 2]; 2];
         pairs[0][0][0] = 1;
         pairs[1][1][0] = 1;
         let mut degrees = [0, 1];
@@ -407,7 +461,7 @@ impl<Column: Fn(usize) -> usize> Words<'_, Column> {
         }
         let least = usize::from(degrees[1] < degrees[0]);
         let [even, odd] = lengths(degrees[least]);
-        let mut word = [0; 128];
+        let mut word = [0; LONGEST];
         let mut turned = 0;
         for j in 0..self.length {
             let x = inverses[(self.column)(j)] ^ inverses[0] ^ omega;
@@ -431,26 +485,22 @@ impl<Column: Fn(usize) -> usize> Words<'_, Column> {
     }
 
     /// gear + 8 × lamp, if the word can be repaired and carries a row.
-    pub fn read_row(&self, inverses: &[u8; 128], received: &[u8], repaired: &mut [u8]) -> Option<u32> {
+    pub fn read_row(&self, inverses: &[Elem], received: &[u8], repaired: &mut [u8]) -> Option<u32> {
         self.read_row_by(&self.basis(), inverses, received, repaired)
     }
 
     /// The same with a basis that was made before.
-    pub fn read_row_by(
-        &self,
-        basis: &Basis,
-        inverses: &[u8; 128],
-        received: &[u8],
-        repaired: &mut [u8],
-    ) -> Option<u32> {
-        let mut word = [0; 128];
+    pub fn read_row_by(&self, basis: &Basis, inverses: &[Elem], received: &[u8], repaired: &mut [u8]) -> Option<u32> {
+        let mut word = [0; LONGEST];
         let word = &mut word[..self.length];
         self.repair(inverses, received, word)?;
-        let mut message = [0; 128];
-        basis.message(word, &mut message);
-        let number = (0..5).fold(0, |number, place| number | u32::from(message[place]) << place);
+        let mut message = basis.message(word);
+        let mut number = 0;
+        for place in 0..5 {
+            number |= u32::from(message.next()?) << place;
+        }
         let (gear, lamp) = (number % 8, number / 8);
-        if message[5..].contains(&1) || lamp > 2 || lamp == 1 && gear != 0 && gear != 7 {
+        if message.any(|bit| bit == 1) || lamp > 2 || lamp == 1 && gear != 0 && gear != 7 {
             return None;
         }
         repaired.copy_from_slice(word);

@@ -2,8 +2,7 @@
 //! are. No proof speaks of that.
 
 use crate::{keep, under_callgrind, Random};
-use std::process::{self, exit};
-use std::{env, fs};
+use std::process::exit;
 use zovunelith::{block, field, Elem};
 
 /// How many elements the blocks have.
@@ -54,27 +53,10 @@ impl Product {
         pairs
     }
 
-    /// The instructions of each call, by callgrind: it counts inside the function alone, and starts anew after each call.
-    fn counts(&self, m: u32) -> Vec<u64> {
-        let path = env::temp_dir().join(format!("zovunelith-steps-{}", process::id()));
-        let options = [
-            format!("--callgrind-out-file={}", path.display()),
-            "--combine-dumps=yes".to_string(),
-            format!("--toggle-collect={}", self.symbol),
-            format!("--dump-after={}", self.symbol),
-        ];
-        under_callgrind(&options.each_ref().map(String::as_str), &["products", self.name, &m.to_string()]);
-        let report = fs::read_to_string(&path).expect("what callgrind has counted");
-        fs::remove_file(&path).expect("callgrind's file");
-        let totals = report.lines().filter_map(|line| line.strip_prefix("totals: "));
-        let mut counts: Vec<u64> = totals.map(|total| total.parse().expect("a number")).collect();
-        assert_eq!(counts.pop(), Some(0), "instructions are counted after the last call");
-        counts
-    }
-
     /// How many calls were counted, and the one number of instructions of each. Stops where two differ.
     fn counted(&self, m: u32) -> (usize, u64) {
-        let (pairs, counts) = (self.pairs(m), self.counts(m));
+        let pairs = self.pairs(m);
+        let (_, counts) = under_callgrind(self.symbol, &["products", self.name, &m.to_string()]);
         assert_eq!(counts.len(), pairs.len(), "not every call of {} was counted at width {m}", self.symbol);
         if let Some(other) = counts.iter().position(|&count| count != counts[0]) {
             eprintln!(

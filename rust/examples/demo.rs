@@ -1,5 +1,5 @@
 //! What the proved library does for a card: its sheet, a row sent and repaired, a word that is too far, and every row
-//! with every one and every two bits turned.
+//! with every one bit turned and, unless the words are long, every two.
 //!
 //!     bash demo              card T, the toy example
 //!     bash demo SHEET        the card on a sheet
@@ -11,7 +11,7 @@ use std::env;
 use zovunelith::{Code, Lamp, Refusal, Row};
 
 /// The sheet of card T.
-const TOY: &str = "   5  16   2  24\n  12   8  10  22  26   9  16  21  14   5  17   4  30  23  25  31\n";
+const TOY: &str = include_str!("../../examples/card-t.sheet");
 
 const FIRST_DARK: Row = Row { gear: 1, lamp: Lamp::Dark };
 
@@ -76,10 +76,13 @@ fn show_too_far(code: &Code) {
     println!("No run of {count} turned bits is too far.");
 }
 
-/// Every row with every one and, where t allows it, every two bits turned.
+/// The longest words of which every two bits are turned: longer ones have so many pairs that the demo would take minutes.
+const LONGEST_FOR_PAIRS: usize = 128;
+
+/// Every row with every one and, where t allows it and the words are not too long, every two bits turned.
 fn show_all(code: &Code) {
     let n = code.h.len();
-    let doubles = code.t >= 2;
+    let doubles = code.t >= 2 && n <= LONGEST_FOR_PAIRS;
     println!("Every row with every one{} turned:", if doubles { " and every two bits" } else { " bit" });
     let (mut all, mut all_right) = (0, 0);
     for row in rows() {

@@ -3,10 +3,10 @@
 //!
 //!     cargo run --offline --manifest-path rust/Cargo.toml --example loom
 
-use zovunelith::{Code, Lamp, Refusal, Row, Selection};
+use zovunelith::{Code, Elem, Lamp, Refusal, Row, Selection};
 
 /// The card of this motorcycle.
-const H: [u8; 32] = [
+const H: [Elem; 32] = [
     39, 49, 32, 13, 20, 40, 17, 2, 47, 3, 43, 51, 63, 60, 46, 34, 61, 44, 55, 5, 15, 22, 29, 27, 48, 16, 31, 54, 21,
     10, 25, 23,
 ];

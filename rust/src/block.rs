@@ -1,4 +1,4 @@
-//! Dyadic blocks: signatures of s elements, s a power of two from 1 to 128, whose matrix has the entry at i ⊕ j in row
+//! Dyadic blocks: signatures of s elements, s a power of two from 1 to 512, whose matrix has the entry at i ⊕ j in row
 //! i and column j. The result goes into `out`, which has s elements too.
 
 use crate::c::{self, done};

@@ -7,9 +7,9 @@ use crate::{Elem, Reading, Refusal, Row};
 /// A code's parameters: a card. Any values may stand here; a call refuses those that break a rule by 1 to 7.
 #[derive(Clone, Copy, Debug, PartialEq, Eq)]
 pub struct Code<'a> {
-    /// The width of the field, 2 to 8.
+    /// The width of the field, 2 to 16.
     pub m: u32,
-    /// The length of a word, a power of two from 2 to 128.
+    /// The length of a word, a power of two from 2 to 512.
     pub n: u32,
     /// The number of roots, a power of two from 1 to n/2: so many turned bits are repaired.
     pub t: u32,

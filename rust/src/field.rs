@@ -1,4 +1,4 @@
-//! The field of 2^m elements, m from 2 to 8. An element is a number below 2^m.
+//! The field of 2^m elements, m from 2 to 16. An element is a number below 2^m.
 
 use crate::c::{self, answer};
 use crate::Refusal;

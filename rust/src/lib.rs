@@ -47,4 +47,4 @@ pub use row::{Lamp, Reading, Row};
 pub use selection::Selection;
 
 /// An element of a field (`zov_elem`).
-pub type Elem = u8;
+pub type Elem = u16;

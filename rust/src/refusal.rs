@@ -6,7 +6,7 @@ use core::fmt;
 #[derive(Clone, Copy, Debug, PartialEq, Eq, Hash)]
 #[repr(u32)]
 pub enum Refusal {
-    /// 1: the width m is not from 2 to 8.
+    /// 1: the width m is not from 2 to 16.
     Width = 1,
     /// 2: n, a block's length, the number of a ride's steps or a lent buffer's length is not what is asked for.
     Length = 2,
@@ -42,7 +42,7 @@ pub enum Refusal {
 
 /// Every refusal, with its word on the bench and its meaning.
 const TABLE: [(Refusal, &str, &str); 16] = [
-    (Refusal::Width, "width", "m outside 2 to 8"),
+    (Refusal::Width, "width", "m outside 2 to 16"),
     (Refusal::Length, "length", "n, a block, a ride or a lent buffer has another length than is asked for"),
     (Refusal::Stranger, "stranger", "an element or offset of 2^m or more"),
     (Refusal::Blank, "blank", "a zero in a signature"),

@@ -78,7 +78,7 @@ mod tests {
 
     #[test]
     fn readings_are_taken_apart() {
-        let reading = Reading { row: Row { gear: 7, lamp: Lamp::Amber }, count: 64 };
-        assert_eq!(Reading::of(7 + 8 * 2 + 32 * 64), reading);
+        let reading = Reading { row: Row { gear: 7, lamp: Lamp::Amber }, count: 256 };
+        assert_eq!(Reading::of(7 + 8 * 2 + 32 * 256), reading);
     }
 }

@@ -3,8 +3,8 @@
 use crate::c::{self, answer};
 use crate::Refusal;
 
-/// The length of the longest listing: a line of six numbers and 128 lines of four, each number in four columns.
-pub const LONGEST_LISTING: usize = (6 * 4 + 1) + 128 * (4 * 4 + 1);
+/// The length of the longest listing: a line of six numbers and 512 lines of four, each number in six columns.
+pub const LONGEST_LISTING: usize = (6 * 6 + 1) + 512 * (4 * 6 + 1);
 
 /// Writes the listing of the code on a sheet to the front of `out` and gives its length. Refused by 13 (no sheet), 1 to
 /// 7 (its code), 2 (the listing has no room).

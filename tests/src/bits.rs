@@ -8,12 +8,12 @@ pub fn bits(number: usize, length: usize) -> Vec<u8> {
     (0..length).map(|place| (number >> place & 1) as u8).collect()
 }
 
-/// The word of n bits that holds 1 at these places.
+/// The word of n bits that holds 1 at these places, which all differ.
 pub fn ones_at(n: usize, places: &[usize]) -> Vec<u8> {
-    (0..n).map(|place| u8::from(places.contains(&place))).collect()
+    turned(&vec![0; n], places)
 }
 
-/// The word with these places turned.
+/// The word with these places turned, which all differ.
 pub fn turned(word: &[u8], places: &[usize]) -> Vec<u8> {
     let mut word = word.to_vec();
     places.iter().for_each(|&place| word[place] ^= 1);

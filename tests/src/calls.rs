@@ -1,7 +1,7 @@
 //! The seven calls on words, of a whole code or of a selection, and what each of them is told and lent.
 
 use crate::bits::turned;
-use crate::canary::Lent;
+use crate::canary::{Entry, Lent};
 use crate::expect::{
     encoding_gives, message_gives, reading_gives, repair_gives, roles_give, syndrome_gives, writing_gives,
 };
@@ -12,7 +12,6 @@ use crate::reference::repair::{self, Decoder};
 use crate::reference::rows::{self, Row};
 use crate::reference::words;
 use crate::Elem;
-use std::fmt::Debug;
 
 #[derive(Clone, Copy, Debug, PartialEq)]
 pub enum Call {
@@ -128,10 +127,7 @@ impl Input {
 
 /// Lends a buffer of this length, with canaries around it.
 #[track_caller]
-fn lending<T>(length: usize, call: impl FnOnce(&mut [T]) -> Result<Vec<u32>, u32>) -> Ended
-where
-    T: Copy + PartialEq + Debug + From<u8> + Into<u32>,
-{
+fn lending<T: Entry + Into<u32>>(length: usize, call: impl FnOnce(&mut [T]) -> Result<Vec<u32>, u32>) -> Ended {
     let mut lent = Lent::marked(length);
     let answer = call(lent.slice_mut());
     assert!(lent.guards_hold(), "a guard was written");

@@ -7,12 +7,36 @@ use std::ptr::{null, null_mut};
 /// Entries before and behind the lent ones.
 const GUARD: usize = 64;
 
+/// An entry of a lent buffer.
+pub trait Entry: Copy + PartialEq + Debug {
+    /// The entry whose bytes are all this one.
+    fn of_byte(byte: u8) -> Self;
+}
+
+impl Entry for u8 {
+    fn of_byte(byte: u8) -> u8 {
+        byte
+    }
+}
+
+impl Entry for u16 {
+    fn of_byte(byte: u8) -> u16 {
+        u16::from_ne_bytes([byte; 2])
+    }
+}
+
+impl Entry for u32 {
+    fn of_byte(byte: u8) -> u32 {
+        u32::from_ne_bytes([byte; 4])
+    }
+}
+
 pub struct Lent<T> {
     entries: Vec<T>,
     at_entry: Vec<T>,
 }
 
-impl<T: Copy + PartialEq + Debug + From<u8>> Lent<T> {
+impl<T: Entry> Lent<T> {
     /// A buffer that holds `contents` when it is lent.
     pub fn holding(contents: &[T]) -> Lent<T> {
         let mut entries: Vec<T> = (0..GUARD).map(pattern).collect();
@@ -23,7 +47,7 @@ impl<T: Copy + PartialEq + Debug + From<u8>> Lent<T> {
     }
 
     /// A buffer for a call's result. It holds a pattern without the bytes 0 and 1, so that a place which the call
-    /// forgets can't pass for a bit.
+    /// forgets can't pass for a bit, and a byte of an entry not for the upper one of a small number.
     pub fn marked(length: usize) -> Lent<T> {
         let contents: Vec<T> = (0..length).map(|index| pattern(index + 3)).collect();
         Lent::holding(&contents)
@@ -68,8 +92,8 @@ impl<T: Copy + PartialEq + Debug + From<u8>> Lent<T> {
 }
 
 /// Bytes from 160 to 239: neither 0 nor 1, and a different one at each of 80 neighbouring places.
-fn pattern<T: From<u8>>(index: usize) -> T {
-    T::from(160 + (index * 23 % 80) as u8)
+fn pattern<T: Entry>(index: usize) -> T {
+    T::of_byte(160 + (index * 23 % 80) as u8)
 }
 
 /// A slice as C may lend it: an empty one by a null pointer. The Rust crate never does this.
@@ -116,5 +140,6 @@ mod tests {
     #[test]
     fn the_pattern_holds_no_bit() {
         assert!(Lent::<u8>::marked(300).slice().iter().all(|&byte| byte > 1));
+        assert!(Lent::<u16>::marked(300).slice().iter().all(|entry| entry.to_ne_bytes().iter().all(|&byte| byte > 1)));
     }
 }

@@ -3,12 +3,12 @@
 use crate::random::Random;
 use crate::reference::columns::{block_count, Selection};
 use crate::reference::field;
-use crate::reference::params::{Params, LENGTHS, ROWS};
+use crate::reference::params::{Params, Shape, LENGTHS, ROWS};
 use crate::reference::words::Code;
 use crate::Elem;
 
-/// Every m, n and t for which a code can be accepted: n is at most q/2 and t at most n/2.
-pub fn shapes() -> Vec<(u32, u32, u32)> {
+/// Every shape for which a code can be accepted: n is at most q/2 and t at most n/2.
+pub fn shapes() -> Vec<Shape> {
     let mut shapes = Vec::new();
     for (m, _) in field::WORDS {
         for n in LENGTHS.into_iter().filter(|&n| n <= field::size(m) / 2) {
@@ -16,6 +16,65 @@ pub fn shapes() -> Vec<(u32, u32, u32)> {
         }
     }
     shapes
+}
+
+/// Whether a code is over one of the small fields, for which everything is tried that can be.
+pub fn is_small(shape: &Shape) -> bool {
+    shape.0 <= 8
+}
+
+/// Fewer shapes, for tests with many trials of each. Over small fields there are all. Over large ones every n stands
+/// once with every t, and the widths take turns. The widest and longest codes are there with the fewest rows and with
+/// the most.
+pub fn fewer_shapes() -> Vec<Shape> {
+    let (mut fewer, large): (Vec<Shape>, Vec<Shape>) = shapes().into_iter().partition(is_small);
+    // The greatest width has every n with every t.
+    for (turn, &(_, n, t)) in large.iter().filter(|shape| shape.0 == 16).enumerate() {
+        let alike: Vec<Shape> = large.iter().copied().filter(|shape| (shape.1, shape.2) == (n, t)).collect();
+        fewer.push(alike[turn % alike.len()]);
+    }
+    fewer.extend([(16, 512, 1), (16, 512, 256)]);
+    fewer
+}
+
+/// How often to try a code, if those over small fields are tried `often`: over large ones there are many, and calls on
+/// the longest take their time.
+pub fn rounds(shape: Shape, often: usize) -> usize {
+    if is_small(&shape) {
+        often
+    } else if shape.1 <= 128 {
+        often.div_ceil(4)
+    } else {
+        often.div_ceil(8)
+    }
+}
+
+/// Every choice among three things, as bits.
+pub const CHOICES: [u32; 8] = [0, 1, 2, 3, 4, 5, 6, 7];
+
+/// All of a list, or over large fields some.
+pub fn all_or_some<T: Clone>(random: &mut Random, shape: Shape, list: &[T]) -> Vec<T> {
+    let places = random.places(list.len(), rounds(shape, list.len()));
+    places.into_iter().map(|place| list[place].clone()).collect()
+}
+
+/// Every place below `length`, or over large fields the first, the last and some between.
+pub fn every_place(random: &mut Random, shape: Shape, length: usize) -> Vec<usize> {
+    if is_small(&shape) {
+        (0..length).collect()
+    } else {
+        places_to_try(random, shape, length)
+    }
+}
+
+/// Places below `length` to try one by one: all of few, and of many the first, the last and some between.
+pub fn places_to_try(random: &mut Random, shape: Shape, length: usize) -> Vec<usize> {
+    let between = rounds(shape, 14);
+    if length <= 2 * between + 4 {
+        return (0..length).collect();
+    }
+    let between = random.places(length - 2, between).into_iter().map(|place| place + 1);
+    [0].into_iter().chain(between).chain([length - 1]).collect()
 }
 
 /// An element.
@@ -64,24 +123,23 @@ pub fn signature_from(m: u32, first: Elem, steps: &[Elem]) -> Vec<Elem> {
     (0..1 << steps.len()).map(entry).collect()
 }
 
-/// All sums of choices among `values`, as marks over the field.
-fn span(m: u32, values: &[Elem]) -> Vec<bool> {
-    let mut marks = vec![false; field::size(m) as usize];
-    marks[0] = true;
-    for &value in values {
-        let before = marks.clone();
-        for (element, _) in before.iter().enumerate().filter(|entry| *entry.1) {
-            marks[element ^ usize::from(value)] = true;
-        }
-    }
-    marks
+/// Whether an element is a sum of some of `values`.
+fn is_sum(values: &[Elem], element: Elem) -> bool {
+    // Each value is first freed of the highest bits of those before it; then so is the element of all of them.
+    let free = |freed: &[Elem], element: Elem| freed.iter().fold(element, |left, value| left.min(left ^ value));
+    let mut freed = Vec::new();
+    values.iter().for_each(|&value| freed.push(free(&freed, value)));
+    free(&freed, element) == 0
 }
 
-/// An element that is no sum of choices among `values`.
+/// An element that is no sum of some of `values`, of which there are fewer than m.
 fn outside(random: &mut Random, m: u32, values: &[Elem]) -> Elem {
-    let marks = span(m, values);
-    let free: Vec<Elem> = (0..field::size(m)).map(|a| a as Elem).filter(|&a| !marks[usize::from(a)]).collect();
-    random.pick(&free)
+    loop {
+        let drawn = element(random, m);
+        if !is_sum(values, drawn) {
+            return drawn;
+        }
+    }
 }
 
 /// Steps of which no two choices have the same sum, at most m.
@@ -111,11 +169,9 @@ pub fn twin_signature(random: &mut Random, m: u32, n: u32) -> Vec<Elem> {
     let mut steps = independent_steps(random, m, n.ilog2().min(m - 1) - 1);
     let first = outside(random, m, &steps);
     // The steps that are left are sums of the others, so two choices of steps agree.
-    let marks = span(m, &steps);
-    let sums: Vec<Elem> = (0..field::size(m)).map(|a| a as Elem).filter(|&a| marks[usize::from(a)]).collect();
     while steps.len() < n.ilog2() as usize {
-        let place = random.below(steps.len() + 1);
-        steps.insert(place, random.pick(&sums));
+        let (place, choice) = (random.below(steps.len() + 1), random.below(1 << steps.len()));
+        steps.insert(place, chosen(&steps, choice));
     }
     signature_from(m, first, &steps)
 }
@@ -126,6 +182,15 @@ pub fn params(random: &mut Random, m: u32, n: u32, t: u32) -> Params {
     Params { m, n, t, omega: element(random, m).into(), h }
 }
 
+/// Offsets to try one by one: all of them, or in a large field the first, the last and some between.
+pub fn offsets(random: &mut Random, m: u32) -> Vec<u32> {
+    if m <= 8 {
+        return (0..field::size(m)).collect();
+    }
+    let between = (0..14).map(|_| element(random, m).into());
+    [0].into_iter().chain(between).chain([field::size(m) - 1]).collect()
+}
+
 /// A selection of `count` blocks of an accepted code, in any order and with any shifts.
 pub fn selection(random: &mut Random, params: &Params, count: usize) -> Selection {
     let blocks = random.choice(block_count(params), count).into_iter().map(|block| block as u32).collect();
@@ -133,10 +198,10 @@ pub fn selection(random: &mut Random, params: &Params, count: usize) -> Selectio
     Selection { params: params.clone(), blocks, shifts }
 }
 
-/// A code of every shape with n at most `longest`, and beside each the code over a selection of its blocks.
-pub fn codes(random: &mut Random, longest: u32) -> Vec<Code> {
+/// A code of each shape with n at most `longest`, and beside each the code over a selection of its blocks.
+pub fn codes(random: &mut Random, shapes: Vec<Shape>, longest: u32) -> Vec<Code> {
     let mut codes = Vec::new();
-    for (m, n, t) in shapes().into_iter().filter(|shape| shape.1 <= longest) {
+    for (m, n, t) in shapes.into_iter().filter(|shape| shape.1 <= longest) {
         let params = params(random, m, n, t);
         let count = 1 + random.below(block_count(&params));
         codes.extend([Code::new(&params), selection(random, &params, count).code()]);
@@ -144,19 +209,10 @@ pub fn codes(random: &mut Random, longest: u32) -> Vec<Code> {
     codes
 }
 
-/// Places of a word to try one by one: all of them, or for long words the first, the last and some between.
-pub fn places_to_try(random: &mut Random, n: usize) -> Vec<usize> {
-    if n <= 32 {
-        return (0..n).collect();
-    }
-    let between = random.places(n - 2, 14).into_iter().map(|place| place + 1);
-    [0].into_iter().chain(between).chain([n - 1]).collect()
-}
-
 /// A fault of a code.
 #[derive(Clone, Copy, Debug, PartialEq)]
 pub enum CodeFault {
-    /// m outside 2 to 8.
+    /// m outside 2 to 16.
     Width,
     /// n is no length of a code, or another than h's.
     Length,
@@ -218,13 +274,44 @@ pub fn one_or_two<Fault: Copy>(faults: &[Fault]) -> Vec<Vec<Fault>> {
 }
 
 /// Widths outside the table, among them ones that a cut to fewer bits would bring back in.
-pub const BAD_WIDTHS: [u32; 13] = [0, 1, 9, 10, 16, 31, 32, 33, 64 + 5, 256 + 5, 65536 + 5, 1 << 31, u32::MAX];
+pub const BAD_WIDTHS: [u32; 15] =
+    [0, 1, 17, 18, 31, 32, 33, 64 + 5, 255, 256 + 5, 256 + 16, 65536 + 5, 65536 + 16, 1 << 31, u32::MAX];
 
 /// Lengths that no block has.
-pub const BAD_BLOCK_LENGTHS: [usize; 12] = [0, 3, 5, 6, 7, 12, 24, 96, 127, 129, 192, 256];
+pub const BAD_BLOCK_LENGTHS: [usize; 18] =
+    [0, 3, 5, 6, 7, 12, 24, 96, 127, 129, 192, 255, 257, 384, 511, 513, 640, 1024];
 
 /// Numbers n that no code has, among them ones that a cut to fewer bits would bring back in.
-pub const BAD_LENGTHS: [u32; 11] = [0, 1, 3, 6, 24, 127, 129, 256, 256 + 16, 65536 + 4, u32::MAX];
+pub const BAD_LENGTHS: [u32; 19] =
+    [0, 1, 3, 6, 24, 127, 129, 255, 257, 256 + 16, 384, 511, 513, 640, 1024, 65536 + 4, 65536 + 512, 1 << 31, u32::MAX];
+
+/// Numbers of q or more, which are no elements; among them ones that a cut to fewer bits would bring back in.
+pub fn strangers(m: u32) -> Vec<u32> {
+    let q = field::size(m);
+    let mut strangers = vec![q, q + 1, 2 * q - 1, 2 * q, 255, 256, 257, 65535, 65536, 65537, 1 << 31, u32::MAX];
+    strangers.retain(|&number| number >= q);
+    strangers
+}
+
+/// Those of them that a signature or a block can hold.
+pub fn strange_entries(m: u32) -> Vec<Elem> {
+    strangers(m).into_iter().filter_map(|number| number.try_into().ok()).collect()
+}
+
+/// Lengths that are not this one, among them ones that a cut to fewer bits would bring back to it.
+pub fn other_lengths(length: usize) -> Vec<usize> {
+    let all = [0, length.saturating_sub(1), length + 1, length / 2, 2 * length, 256 + length, 65536 + length];
+    all.into_iter().filter(|&other| other != length).collect()
+}
+
+/// One of them; seldom the longest, which takes its time.
+pub fn other_length(random: &mut Random, length: usize) -> usize {
+    let mut others = other_lengths(length);
+    if random.below(16) > 0 {
+        others.pop();
+    }
+    random.pick(&others)
+}
 
 /// A code with exactly these faults. The lower its number, the later a fault is made: it can then cover one with a
 /// higher number, which is not the one to be given, but is never covered itself.
@@ -232,7 +319,7 @@ pub fn damaged_code(random: &mut Random, m: u32, n: u32, t: u32, faults: &[CodeF
     let mut params = params(random, m, n, t);
     let has = |fault: CodeFault| faults.contains(&fault);
     if has(CodeFault::Rows) {
-        params.t = random.pick(&[0, 3, n - 1, n, 2 * n, 96, 256 + t, 65536 + t, u32::MAX]);
+        params.t = random.pick(&[0, 3, n - 1, n, 2 * n, 96, 384, 256 + t, 65536 + t, u32::MAX]);
         if params.t.is_power_of_two() && params.t <= n / 2 {
             params.t = 0;
         }
@@ -252,8 +339,7 @@ pub fn damaged_code(random: &mut Random, m: u32, n: u32, t: u32, faults: &[CodeF
         params.h[place] = 0;
     }
     if has(CodeFault::Offset) {
-        let q = field::size(m);
-        params.omega = random.pick(&[q, q + 1, 2 * q - 1, 256, 256 + 1, 65536, u32::MAX]);
+        params.omega = random.pick(&strangers(m));
     }
     if has(CodeFault::Entry) {
         let place = random.below(n as usize);
@@ -261,8 +347,7 @@ pub fn damaged_code(random: &mut Random, m: u32, n: u32, t: u32, faults: &[CodeF
         params.h[place] = Elem::MAX - random.below(room) as Elem;
     }
     if has(CodeFault::SignatureLength) {
-        let length = random.pick(&[0, 1, n as usize - 1, n as usize + 1, 2 * n as usize]);
-        params.h.resize(length, 1);
+        params.h.resize(other_length(random, n as usize), 1);
     }
     if has(CodeFault::Length) {
         params.n = random.pick(&BAD_LENGTHS);
@@ -274,4 +359,39 @@ pub fn damaged_code(random: &mut Random, m: u32, n: u32, t: u32, faults: &[CodeF
         params.m = random.pick(&BAD_WIDTHS);
     }
     params
+}
+
+#[cfg(test)]
+mod tests {
+    use super::*;
+
+    #[test]
+    fn every_shape() {
+        let shapes = shapes();
+        assert_eq!(shapes.len(), 435);
+        assert_eq!(shapes.iter().filter(|shape| is_small(shape)).count(), 84);
+        assert!(shapes.contains(&(2, 2, 1)) && shapes.contains(&(16, 512, 256)) && !shapes.contains(&(9, 512, 1)));
+    }
+
+    #[test]
+    fn fewer_shapes_leave_no_number_out() {
+        let (all, fewer) = (shapes(), fewer_shapes());
+        assert!(fewer.iter().all(|shape| all.contains(shape)));
+        assert!(all.iter().filter(|shape| is_small(shape)).all(|shape| fewer.contains(shape)));
+        for &(m, n, t) in &all {
+            let large = |shape: &Shape| !is_small(shape) && (shape.1, shape.2) == (n, t);
+            assert!(fewer.iter().any(large), "n {n}, t {t}");
+            assert!(n < 256 || fewer.iter().any(|shape| (shape.0, shape.1) == (m, n)), "m {m}, n {n}");
+        }
+    }
+
+    #[test]
+    fn sums_of_some_values() {
+        let mut random = Random::new(23);
+        for _ in 0..200 {
+            let values = block(&mut random, 5, 3);
+            let sums: Vec<Elem> = (0..8).map(|choice| chosen(&values, choice)).collect();
+            assert!((0..32).all(|element| is_sum(&values, element) == sums.contains(&element)), "{values:?}");
+        }
+    }
 }

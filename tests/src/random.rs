@@ -40,7 +40,13 @@ impl Random {
 
     /// `length` bytes, each 0 or 1.
     pub fn bits(&mut self, length: usize) -> Vec<u8> {
-        (0..length).map(|_| (self.draw() >> 63) as u8).collect()
+        let mut bits: Vec<u8> = Vec::with_capacity(length + 63);
+        while bits.len() < length {
+            let drawn = self.draw();
+            bits.extend((0..64).map(|place| (drawn >> place & 1) as u8));
+        }
+        bits.truncate(length);
+        bits
     }
 
     /// `count` different numbers below `length`, in any order.

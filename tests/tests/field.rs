@@ -1,18 +1,26 @@
-//! Sum, product and inverse of elements, against carry-less multiplication and exhaustive search.
+//! Sum, product and inverse of elements, against carry-less multiplication and long division.
 
+use zovunelith_tests::draw::{element, strangers, BAD_WIDTHS};
 use zovunelith_tests::library::field as library;
 use zovunelith_tests::random::Random;
 use zovunelith_tests::reference::field as reference;
 
-/// Widths outside the table, among them ones that a cut to fewer bits would bring back in.
-const BAD_WIDTHS: [u32; 14] = [0, 1, 9, 10, 16, 31, 32, 33, 64 + 5, 255, 256 + 5, 65536 + 5, 1 << 31, u32::MAX];
+fn widths() -> impl Iterator<Item = u32> {
+    reference::WORDS.into_iter().map(|entry| entry.0)
+}
 
-/// Elements of q or more, among them ones that a cut to fewer bits would bring back in.
-fn strangers(m: u32) -> Vec<u32> {
-    let q = reference::size(m);
-    let mut strangers = vec![q, q + 1, 2 * q - 1, 2 * q, 255, 256, 257, 65535, 65536, 65537, 1 << 31, u32::MAX];
-    strangers.retain(|&element| element >= q);
-    strangers
+/// The widths of the small fields, of which all pairs of elements are looked at.
+fn small_widths() -> impl Iterator<Item = u32> {
+    widths().filter(|&m| m <= 8)
+}
+
+/// Compares the sum and the product of two elements, in both orders.
+#[track_caller]
+fn compare(m: u32, a: u32, b: u32) {
+    for (a, b) in [(a, b), (b, a)] {
+        assert_eq!(library::sum(m, a, b), reference::sum(m, a, b), "width {m}: {a} plus {b}");
+        assert_eq!(library::product(m, a, b), reference::product(m, a, b), "width {m}: {a} times {b}");
+    }
 }
 
 #[test]
@@ -23,12 +31,33 @@ fn cases() {
 
 #[test]
 fn sums_and_products_of_all_pairs() {
-    for (m, _) in reference::WORDS {
+    for m in small_widths() {
         for a in 0..reference::size(m) {
-            for b in 0..reference::size(m) {
-                assert_eq!(library::sum(m, a, b), reference::sum(m, a, b), "width {m}: {a} plus {b}");
-                assert_eq!(library::product(m, a, b), reference::product(m, a, b), "width {m}: {a} times {b}");
-            }
+            (0..=a).for_each(|b| compare(m, a, b));
+        }
+    }
+}
+
+/// Every element with every power of u below u^m, of which all elements are sums.
+#[test]
+fn sums_and_products_with_single_bits() {
+    for m in widths() {
+        for a in 0..reference::size(m) {
+            (0..m).for_each(|i| compare(m, a, 1 << i));
+        }
+    }
+}
+
+#[test]
+fn sums_and_products_of_random_pairs() {
+    let mut random = Random::new(103);
+    for m in widths() {
+        for _ in 0..40_000 {
+            compare(m, element(&mut random, m).into(), element(&mut random, m).into());
+        }
+        // The greatest element has every bit.
+        for _ in 0..2000 {
+            compare(m, reference::size(m) - 1, element(&mut random, m).into());
         }
     }
 }
@@ -48,7 +77,7 @@ fn products_by_u() {
 
 #[test]
 fn inverses_of_all_elements() {
-    for (m, _) in reference::WORDS {
+    for m in widths() {
         for a in 0..reference::size(m) {
             assert_eq!(library::inverse(m, a), reference::inverse(m, a), "width {m}: inverse of {a}");
         }
@@ -59,7 +88,7 @@ fn inverses_of_all_elements() {
 /// u^i is u^(q − 1 − i).
 #[test]
 fn tables_of_inverses() {
-    for (m, _) in reference::WORDS {
+    for m in widths() {
         let order = reference::size(m) as usize - 1;
         let mut powers = vec![1];
         for i in 1..order {
@@ -74,10 +103,10 @@ fn tables_of_inverses() {
     }
 }
 
-/// The words of the table give fields: told by the product's answers alone.
+/// The words of the table give fields: told by the product's answers alone, where all can be asked for.
 #[test]
 fn every_nonzero_element_has_exactly_one_inverse() {
-    for (m, _) in reference::WORDS {
+    for m in small_widths() {
         for a in 1..reference::size(m) {
             let inverses: Vec<u32> = (0..reference::size(m)).filter(|&b| library::product(m, a, b) == Ok(1)).collect();
             assert_eq!(inverses, [library::inverse(m, a).expect("an inverse")], "width {m}: {a}");
@@ -88,11 +117,11 @@ fn every_nonzero_element_has_exactly_one_inverse() {
 #[test]
 fn laws_hold_for_random_elements() {
     let mut random = Random::new(101);
-    for (m, _) in reference::WORDS {
+    for m in widths() {
         let sum = |a, b| library::sum(m, a, b).expect("elements");
         let times = |a, b| library::product(m, a, b).expect("elements");
         for _ in 0..2000 {
-            let [a, b, c] = [0; 3].map(|_: u32| random.below(reference::size(m) as usize) as u32);
+            let [a, b, c] = [(); 3].map(|()| u32::from(element(&mut random, m)));
             assert_eq!(sum(a, b), sum(b, a), "width {m}: {a} {b}");
             assert_eq!(sum(a, sum(b, c)), sum(sum(a, b), c), "width {m}: {a} {b} {c}");
             assert_eq!((sum(a, 0), sum(a, a)), (a, 0), "width {m}: {a}");
@@ -108,9 +137,9 @@ fn laws_hold_for_random_elements() {
 #[test]
 fn widths_outside_the_table() {
     for m in BAD_WIDTHS {
-        for a in [0, 1, 2, 3, 4, 31, 255, 256, 512, 65536, 1 << 31, u32::MAX] {
+        for a in [0, 1, 2, 3, 4, 31, 255, 256, 512, 65535, 65536, 1 << 31, u32::MAX] {
             assert_eq!(library::inverse(m, a), Err(1), "width {m}: inverse of {a}");
-            for b in [0, 1, 3, 255, 256, u32::MAX] {
+            for b in [0, 1, 3, 255, 256, 65535, 65536, u32::MAX] {
                 assert_eq!(library::sum(m, a, b), Err(1), "width {m}: {a} plus {b}");
                 assert_eq!(library::product(m, a, b), Err(1), "width {m}: {a} times {b}");
             }
@@ -121,7 +150,7 @@ fn widths_outside_the_table() {
 /// 3 for an element of q or more on either side, zero on the other side or not.
 #[test]
 fn strangers_on_either_side() {
-    for (m, _) in reference::WORDS {
+    for m in widths() {
         for stranger in strangers(m) {
             assert_eq!(library::inverse(m, stranger), Err(3), "width {m}: inverse of {stranger}");
             for other in [0, 1, reference::size(m) - 1, stranger, u32::MAX] {

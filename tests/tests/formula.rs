@@ -1,7 +1,7 @@
-//! Formulas of dyadic blocks, against a reading from the outside in and the full matrices.
+//! Formulas of dyadic blocks, against a reading from the outside in and the matrices of blocks.
 
 use zovunelith_tests::canary::{pointer, pointer_mut, Lent};
-use zovunelith_tests::draw::{block, dead_block, live_block, BAD_BLOCK_LENGTHS, BAD_WIDTHS};
+use zovunelith_tests::draw::{block, dead_block, live_block, strange_entries, BAD_BLOCK_LENGTHS, BAD_WIDTHS};
 use zovunelith_tests::library::block as library;
 use zovunelith_tests::random::Random;
 use zovunelith_tests::reference::block::LENGTHS;
@@ -187,38 +187,42 @@ fn written(s: usize, call: impl FnOnce(&mut [Elem]) -> Result<(), u32>) -> Vec<E
     out
 }
 
+/// Every width with every length up to 128, and with the longer ones some.
+fn widths_and_lengths() -> Vec<(u32, usize)> {
+    let all = field::WORDS.into_iter().flat_map(|(m, _)| LENGTHS.map(|s| (m, s)));
+    all.filter(|&(m, s)| s <= 128 || (m, s) == (9, 256) || (m, s) == (16, 512)).collect()
+}
+
 /// What the rules say of some texts, by the calls for sums, products and inverses.
 #[test]
 fn readings_by_the_other_calls() {
     let mut random = Random::new(1101);
-    for (m, _) in field::WORDS {
-        for s in LENGTHS {
-            let blocks = live_blocks(&mut random, m, s);
-            let [a, b, c, d] = &blocks;
-            let inverse = |x: &[Elem]| written(s, |out| library::inverse(m, x, out));
-            let times = |x: &[Elem], y: &[Elem]| written(s, |out| library::product(m, x, y, out));
-            let plus = |x: &[Elem], y: &[Elem]| written(s, |out| library::sum(m, x, y, out));
-            for (text, value) in [
-                ("A", a.clone()),
-                ("(D)", d.clone()),
-                ("A'", inverse(a)),
-                ("A''", a.clone()),
-                ("A'''", inverse(a)),
-                ("A+B*C'", plus(a, &times(b, &inverse(c)))),
-                ("A*B+C*D", plus(&times(a, b), &times(c, d))),
-                ("(A+B)*(C+D)", times(&plus(a, b), &plus(c, d))),
-                ("A*B'", times(a, &inverse(b))),
-                ("(A*B)'", inverse(&times(a, b))),
-                ("A/B", times(a, &inverse(b))),
-                ("A/B'", times(a, b)),
-                ("A/B/C", times(a, &inverse(&times(b, c)))),
-                ("A/(B*C)", times(a, &inverse(&times(b, c)))),
-                ("A/(B/C)", times(&times(a, c), &inverse(b))),
-                ("A/B*C", times(&times(a, c), &inverse(b))),
-                ("A*B/C", times(&times(a, b), &inverse(c))),
-            ] {
-                assert_eq!(compare(m, text.as_bytes(), &blocks, s), Ok(value), "{text}");
-            }
+    for (m, s) in widths_and_lengths().into_iter().filter(|pair| pair.1 <= 256) {
+        let blocks = live_blocks(&mut random, m, s);
+        let [a, b, c, d] = &blocks;
+        let inverse = |x: &[Elem]| written(s, |out| library::inverse(m, x, out));
+        let times = |x: &[Elem], y: &[Elem]| written(s, |out| library::product(m, x, y, out));
+        let plus = |x: &[Elem], y: &[Elem]| written(s, |out| library::sum(m, x, y, out));
+        for (text, value) in [
+            ("A", a.clone()),
+            ("(D)", d.clone()),
+            ("A'", inverse(a)),
+            ("A''", a.clone()),
+            ("A'''", inverse(a)),
+            ("A+B*C'", plus(a, &times(b, &inverse(c)))),
+            ("A*B+C*D", plus(&times(a, b), &times(c, d))),
+            ("(A+B)*(C+D)", times(&plus(a, b), &plus(c, d))),
+            ("A*B'", times(a, &inverse(b))),
+            ("(A*B)'", inverse(&times(a, b))),
+            ("A/B", times(a, &inverse(b))),
+            ("A/B'", times(a, b)),
+            ("A/B/C", times(a, &inverse(&times(b, c)))),
+            ("A/(B*C)", times(a, &inverse(&times(b, c)))),
+            ("A/(B/C)", times(&times(a, c), &inverse(b))),
+            ("A/B*C", times(&times(a, c), &inverse(b))),
+            ("A*B/C", times(&times(a, b), &inverse(c))),
+        ] {
+            assert_eq!(compare(m, text.as_bytes(), &blocks, s), Ok(value), "{text}");
         }
     }
 }
@@ -266,14 +270,13 @@ fn drawn_formulas_of_every_depth() {
 #[test]
 fn drawn_formulas_of_every_length_and_width() {
     let mut random = Random::new(1104);
-    for (m, _) in field::WORDS {
-        for s in LENGTHS {
-            // The full matrices take their time.
-            for _ in 0..(128 / s).clamp(2, 20) {
-                let blocks = live_blocks(&mut random, m, s);
-                let text = drawn_text(&mut random, 40);
-                assert_ne!(compare(m, text.as_bytes(), &blocks, s), Err(16), "{text}");
-            }
+    for (m, s) in widths_and_lengths() {
+        // The matrices take their time.
+        let (count, room) = if s <= 128 { ((128 / s).clamp(2, 20), 40) } else { (2, 20) };
+        for _ in 0..count {
+            let blocks = live_blocks(&mut random, m, s);
+            let text = drawn_text(&mut random, room);
+            assert_ne!(compare(m, text.as_bytes(), &blocks, s), Err(16), "{text}");
         }
     }
 }
@@ -561,7 +564,7 @@ fn lengths_that_no_block_has() {
 fn no_block_lent() {
     let mut random = Random::new(1117);
     let none: Blocks = Default::default();
-    for result_length in 0..=300 {
+    for result_length in (0..=520).chain([640, 1024, 65536 + 4, 65536 + 512]) {
         let number = if LENGTHS.contains(&result_length) { 16 } else { 2 };
         let drawn = drawn_text(&mut random, LONGEST);
         for text in TEXTS.into_iter().chain([drawn.as_bytes()]) {
@@ -584,6 +587,11 @@ fn blocks_of_other_lengths() {
             let number = if wrong { Some(2) } else { (chosen[0] == 0).then_some(16) };
             assert_eq!(answer.err(), number, "{chosen:?} into {s}");
         }
+        for letter in 0..4 {
+            let mut blocks = any_blocks(&mut random, 5, s);
+            blocks[letter].resize(65536 + s, 1);
+            assert_eq!(compare(5, b"A", &blocks, s), Err(2), "block {letter} of {s}");
+        }
     }
 }
 
@@ -592,11 +600,12 @@ fn blocks_of_other_lengths() {
 fn strangers_anywhere() {
     let mut random = Random::new(1119);
     for (m, _) in field::WORDS.into_iter().filter(|entry| entry.0 < Elem::BITS) {
-        for s in [1, 2, 8, 128] {
+        for s in [1, 2, 8, 128, 512] {
             let all = any_blocks(&mut random, m, s);
-            for (letter, place) in (0..4).flat_map(|letter| (0..s).map(move |place| (letter, place))) {
+            let places = if s <= 128 { (0..s).collect() } else { random.places(s, 8) };
+            for (letter, &place) in (0..4).flat_map(|letter| places.iter().map(move |place| (letter, place))) {
                 let mut blocks = lent_by(random.below(16) | 1 << letter, &all);
-                blocks[letter][place] = random.pick(&[1 << m, (1 << m) + 1, Elem::MAX]);
+                blocks[letter][place] = random.pick(&strange_entries(m));
                 for text in TEXTS {
                     assert_eq!(compare(m, text, &blocks, s), Err(3), "width {m}, block {letter}, place {place} of {s}");
                 }

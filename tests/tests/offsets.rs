@@ -10,20 +10,22 @@ use zovunelith_tests::library::{params, sheet};
 use zovunelith_tests::random::Random;
 use zovunelith_tests::reference::columns::{block_count, Selection, Setting};
 use zovunelith_tests::reference::field;
-use zovunelith_tests::reference::params::Params;
+use zovunelith_tests::reference::params::{Params, Shape};
 use zovunelith_tests::reference::repair::Decoder;
 use zovunelith_tests::reference::rows::Row;
 use zovunelith_tests::reference::sheet as sheets;
 use zovunelith_tests::reference::words::Code;
 use zovunelith_tests::Elem;
 
-/// A code of every shape, and the same with another offset.
-fn pairs(random: &mut Random) -> Vec<(Params, Params)> {
+/// A code of each shape, or over small fields so many, and the same with another offset.
+fn pairs(random: &mut Random, shapes: Vec<Shape>, often: usize) -> Vec<(Params, Params)> {
     let mut pairs = Vec::new();
-    for (m, n, t) in draw::shapes() {
-        let one = draw::params(random, m, n, t);
-        let apart = 1 + random.below(field::size(m) as usize - 1) as u32;
-        pairs.push((one.clone(), Params { omega: one.omega ^ apart, ..one }));
+    for shape @ (m, n, t) in shapes {
+        for _ in 0..draw::rounds(shape, often) {
+            let one = draw::params(random, m, n, t);
+            let apart = u32::from(draw::nonzero(random, m));
+            pairs.push((one.clone(), Params { omega: one.omega ^ apart, ..one }));
+        }
     }
     pairs
 }
@@ -80,12 +82,10 @@ fn assert_all_seen(seen: &Seen) {
 fn calls_on_whole_codes() {
     let mut random = Random::new(1001);
     let mut seen = Seen::default();
-    for _ in 0..4 {
-        for (one, other) in pairs(&mut random) {
-            let decoder = Decoder::new(Code::new(&one));
-            for _ in 0..12 {
-                alike(&one, &other, &any_input(&mut random, &decoder), &mut seen);
-            }
+    for (one, other) in pairs(&mut random, draw::fewer_shapes(), 4) {
+        let decoder = Decoder::new(Code::new(&one));
+        for _ in 0..draw::rounds(one.shape(), 12) {
+            alike(&one, &other, &any_input(&mut random, &decoder), &mut seen);
         }
     }
     assert_all_seen(&seen);
@@ -96,15 +96,13 @@ fn calls_on_whole_codes() {
 fn calls_on_selections() {
     let mut random = Random::new(1002);
     let mut seen = Seen::default();
-    for _ in 0..4 {
-        for (one, other) in pairs(&mut random) {
-            for count in [1 + random.below(block_count(&one)), block_count(&one)] {
-                let selection = draw::selection(&mut random, &one, count);
-                let moved = Selection { params: other.clone(), ..selection.clone() };
-                let decoder = Decoder::new(selection.code());
-                for _ in 0..8 {
-                    alike(&selection, &moved, &any_input(&mut random, &decoder), &mut seen);
-                }
+    for (one, other) in pairs(&mut random, draw::fewer_shapes(), 4) {
+        for count in [1 + random.below(block_count(&one)), block_count(&one)] {
+            let selection = draw::selection(&mut random, &one, count);
+            let moved = Selection { params: other.clone(), ..selection.clone() };
+            let decoder = Decoder::new(selection.code());
+            for _ in 0..draw::rounds(one.shape(), 8) {
+                alike(&selection, &moved, &any_input(&mut random, &decoder), &mut seen);
             }
         }
     }
@@ -116,7 +114,7 @@ fn calls_on_selections() {
 fn calls_on_lists_that_are_no_selection() {
     let mut random = Random::new(1003);
     let mut seen = Seen::default();
-    for (one, other) in pairs(&mut random) {
+    for (one, other) in pairs(&mut random, draw::fewer_shapes(), 1) {
         let right = draw::selection(&mut random, &one, block_count(&one));
         let input = Input::new(&mut random, &Decoder::new(right.code()));
         let last = right.blocks.len() - 1;
@@ -148,7 +146,7 @@ fn checked(code: &Params) -> (Vec<Elem>, Vec<Elem>) {
 #[test]
 fn codes_that_differ_in_the_offset_alone() {
     let mut random = Random::new(1004);
-    for (one, other) in pairs(&mut random) {
+    for (one, other) in pairs(&mut random, draw::shapes(), 1) {
         let numbers = |code: &Params| (code.m, code.n, code.t, code.omega);
         assert_eq!(params::same(numbers(&one), &one.h, numbers(&other), &other.h), Ok(false), "{one:?}");
         let apart = (one.omega ^ other.omega) as Elem;
@@ -168,7 +166,7 @@ fn codes_that_differ_in_the_offset_alone() {
 #[test]
 fn listings() {
     let mut random = Random::new(1005);
-    for (one, other) in pairs(&mut random) {
+    for (one, other) in pairs(&mut random, draw::fewer_shapes(), 1) {
         let apart = one.omega ^ other.omega;
         let (first, second) = (listed(&one), listed(&other));
         assert_eq!(first.len(), second.len());

@@ -1,16 +1,17 @@
 //! Repair, against exhaustive search where a code is small, choices of places by their syndromes for small t, and the
 //! locator's equations elsewhere.
 //!
-//! The environment variable `ZOV_REPAIR_WORDS` gives the number of random words, 100,000 without it.
+//! The environment variable `ZOV_REPAIR_WORDS` gives the number of random words over small fields, 100,000 without it;
+//! over large ones there are a quarter as many.
 
-use std::ops::RangeInclusive;
 use zovunelith_tests::bits::{bits, ones_at, turned, BAD_BYTES};
 use zovunelith_tests::canary::Lent;
 use zovunelith_tests::draw::{self, CodeFault};
 use zovunelith_tests::expect::{comes_back, repair_gives, Counted};
 use zovunelith_tests::random::{number_from_environment, Random};
+use zovunelith_tests::reference::columns::{block_count, Setting};
 use zovunelith_tests::reference::field;
-use zovunelith_tests::reference::params::{code_a, code_t, Params};
+use zovunelith_tests::reference::params::{code_a, code_t, Params, Shape};
 use zovunelith_tests::reference::repair::{self as reference, distance, Decoder};
 use zovunelith_tests::reference::words::Code;
 
@@ -69,7 +70,7 @@ fn all_words_of_small_codes() {
 #[test]
 fn all_errors_of_at_most_t_places() {
     let mut random = Random::new(502);
-    for (m, n, t) in draw::shapes() {
+    for (m, n, t) in draw::fewer_shapes() {
         let code = Code::new(&draw::params(&mut random, m, n, t));
         let Some(choices) = choices(code.length(), t as usize, 3000) else {
             continue;
@@ -102,15 +103,22 @@ fn choices(n: usize, most: usize, limit: usize) -> Option<Vec<Vec<usize>>> {
     Some(all)
 }
 
-/// Codes of every shape with n in `lengths`, and code words with every number of turned bits from 0 to n, until
-/// `share` in eight of the random words are done. Each shape gets about as many words as any other: the shorter a
-/// code, the more codes are drawn.
-fn random_words(random: &mut Random, lengths: RangeInclusive<u32>, share: u64) {
+/// Codes of these shapes over small fields, and code words with every number of turned bits from 0 to n, until `share`
+/// in eight of the random words are done; then a quarter as many over large fields.
+fn random_words(random: &mut Random, shapes: impl Iterator<Item = Shape>, share: u64) {
     let wanted = number_from_environment("ZOV_REPAIR_WORDS").unwrap_or(100_000) * share / 8;
+    let (small, large) = shapes.partition(draw::is_small);
+    words_of_shapes(random, small, wanted);
+    words_of_shapes(random, large, wanted / 4);
+}
+
+/// So many words. Each shape gets about as many as any other: the shorter a code, the more codes are drawn.
+fn words_of_shapes(random: &mut Random, shapes: Vec<Shape>, wanted: u64) {
+    let longest = shapes.iter().map(|shape| shape.1).max().expect("a shape");
     let (mut words, mut repaired, mut too_far) = (0, 0, 0);
     while words < wanted {
-        for (m, n, t) in draw::shapes().into_iter().filter(|shape| lengths.contains(&shape.1)) {
-            for _ in 0..lengths.end() / n {
+        for &(m, n, t) in &shapes {
+            for _ in 0..longest / n {
                 let decoder = decoder(random, m, n, t);
                 for weight in 0..=decoder.code.length() {
                     let sent = decoder.code.encode(&random.bits(decoder.code.k()));
@@ -132,22 +140,60 @@ fn random_words(random: &mut Random, lengths: RangeInclusive<u32>, share: u64) {
 
 #[test]
 fn random_words_of_short_codes() {
-    random_words(&mut Random::new(503), 2..=32, 7);
+    random_words(&mut Random::new(503), draw::shapes().into_iter().filter(|shape| shape.1 <= 32), 7);
 }
 
 /// The fewer words, because each takes its time.
 #[test]
 fn random_words_of_long_codes() {
-    random_words(&mut Random::new(511), 64..=128, 1);
+    let long = draw::fewer_shapes().into_iter().filter(|shape| (64..=128).contains(&shape.1));
+    random_words(&mut Random::new(511), long, 1);
+}
+
+/// The numbers of turned places up to t + 2: all of them, or for many rows some.
+fn weights(t: usize) -> Vec<usize> {
+    if t <= 32 {
+        (0..=t + 2).collect()
+    } else {
+        vec![0, 1, t / 2, t - 1, t, t + 1, t + 2]
+    }
+}
+
+/// The longest codes there are, whole and over selections, with 0 to t + 2 turned places.
+#[test]
+fn words_of_the_longest_codes() {
+    let mut random = Random::new(513);
+    for (m, n, t) in draw::fewer_shapes().into_iter().filter(|shape| shape.1 > 128) {
+        let params = draw::params(&mut random, m, n, t);
+        let count = 2 + random.below(block_count(&params) - 1);
+        let selection = draw::selection(&mut random, &params, count);
+        words_up_to_the_limit(&mut random, &params, Decoder::new(Code::new(&params)));
+        words_up_to_the_limit(&mut random, &selection, Decoder::new(selection.code()));
+    }
+}
+
+/// Words of a setting with 0 to t + 2 turned places.
+#[track_caller]
+fn words_up_to_the_limit(random: &mut Random, setting: &impl Setting, decoder: Decoder) {
+    let (length, t) = (decoder.code.length(), decoder.code.params.t as usize);
+    for weight in weights(t) {
+        let sent = decoder.code.encode(&random.bits(decoder.code.k()));
+        let received = turned(&sent, &random.places(length, weight.min(length)));
+        let expected = decoder.repair(&received).ok_or(10);
+        if weight <= t {
+            assert_eq!(expected, Ok((sent, weight as u32)), "{setting:?}");
+        }
+        repair_gives(setting, &received, Lent::marked(length), &expected);
+    }
 }
 
 /// Words that differ from a code word in t places, and in one more.
 #[test]
 fn words_at_and_beyond_the_limit() {
     let mut random = Random::new(504);
-    for (m, n, t) in draw::shapes() {
+    for shape @ (m, n, t) in draw::shapes() {
         let decoder = decoder(&mut random, m, n, t);
-        for _ in 0..40 {
+        for _ in 0..if draw::is_small(&shape) { 40 } else { draw::rounds(shape, 8) } {
             let sent = decoder.code.encode(&random.bits(decoder.code.k()));
             comes_back(&decoder.code.params, &sent, &random.places(decoder.code.length(), t as usize));
             let received = turned(&sent, &random.places(decoder.code.length(), t as usize + 1));
@@ -165,7 +211,7 @@ fn words_at_and_beyond_the_limit() {
 fn syndromes_with_zeros_in_them() {
     let mut random = Random::new(505);
     let mut met = 0;
-    for (m, n, t) in draw::shapes().into_iter().filter(|shape| shape.2 >= 2) {
+    for (m, n, t) in draw::fewer_shapes().into_iter().filter(|shape| shape.2 >= 2) {
         let code = Code::new(&draw::params(&mut random, m, n, t));
         for _ in 0..500 {
             let weight = 1 + random.below(t as usize);
@@ -184,10 +230,10 @@ fn syndromes_with_zeros_in_them() {
 #[test]
 fn the_zero_of_the_support() {
     let mut random = Random::new(506);
-    for (m, n, t) in draw::shapes() {
+    for shape @ (m, n, t) in draw::fewer_shapes() {
         let code = Code::new(&draw::params(&mut random, m, n, t));
         let reciprocal = |j: usize| field::reciprocal(m, code.params.h[j]);
-        for j in random.places(code.length(), code.length().min(8)) {
+        for j in random.places(code.length(), draw::rounds(shape, 8).min(code.length())) {
             let moved = Code::new(&Params { omega: (reciprocal(j) ^ reciprocal(0)).into(), ..code.params.clone() });
             let sent = moved.encode(&random.bits(moved.k()));
             comes_back(&moved.params, &sent, &[j]);
@@ -204,13 +250,24 @@ fn the_zero_of_the_support() {
 #[test]
 fn every_offset() {
     let mut random = Random::new(507);
-    for (m, n, t) in [(2, 2, 1), (3, 4, 1), (4, 8, 2), (5, 16, 2), (6, 32, 4), (7, 16, 2), (8, 64, 4)] {
+    for (m, n, t) in [
+        (2, 2, 1),
+        (3, 4, 1),
+        (4, 8, 2),
+        (5, 16, 2),
+        (6, 32, 4),
+        (7, 16, 2),
+        (8, 64, 4),
+        (9, 128, 8),
+        (12, 32, 2),
+        (16, 512, 4),
+    ] {
         let decoder = decoder(&mut random, m, n, t);
         let sent = decoder.code.encode(&random.bits(decoder.code.k()));
         for weight in [t as usize, t as usize + 1, decoder.code.length() / 2] {
             let received = turned(&sent, &random.places(decoder.code.length(), weight));
             let expected = decoder.repair(&received).ok_or(10);
-            for omega in 0..field::size(m) {
+            for omega in draw::offsets(&mut random, m) {
                 let params = Params { omega, ..decoder.code.params.clone() };
                 repair_gives(&params, &received, Lent::marked(decoder.code.length()), &expected);
             }
@@ -222,15 +279,16 @@ fn every_offset() {
 #[test]
 fn buffers_with_other_contents() {
     let mut random = Random::new(508);
-    for (m, n, t) in draw::shapes() {
+    for shape @ (m, n, t) in draw::fewer_shapes() {
         let decoder = decoder(&mut random, m, n, t);
         let length = decoder.code.length();
         for weight in [0, 1, t as usize, t as usize + 1, length] {
             let sent = decoder.code.encode(&random.bits(decoder.code.k()));
             let received = turned(&sent, &random.places(length, weight));
             let expected = decoder.repair(&received).ok_or(10);
-            for contents in [&random.bits(length), &received, &sent, &vec![0; length], &vec![255; length]] {
-                repair_gives(&decoder.code.params, &received, Lent::holding(contents), &expected);
+            let contents = [random.bits(length), received.clone(), sent, vec![0; length], vec![255; length]];
+            for contents in draw::all_or_some(&mut random, shape, &contents) {
+                repair_gives(&decoder.code.params, &received, Lent::holding(&contents), &expected);
             }
         }
     }
@@ -240,9 +298,9 @@ fn buffers_with_other_contents() {
 #[test]
 fn bytes_that_are_no_bits() {
     let mut random = Random::new(509);
-    for (m, n, t) in draw::shapes() {
+    for shape @ (m, n, t) in draw::fewer_shapes() {
         let code = Code::new(&draw::params(&mut random, m, n, t));
-        for place in draw::places_to_try(&mut random, code.length()) {
+        for place in draw::places_to_try(&mut random, shape, code.length()) {
             for mut received in [code.encode(&random.bits(code.k())), random.bits(code.length())] {
                 received[place] = random.pick(&BAD_BYTES);
                 repair_gives(&code.params, &received, Lent::marked(code.length()), &Err(8));
@@ -258,15 +316,15 @@ fn bytes_that_are_no_bits() {
 #[test]
 fn faults_together() {
     let mut random = Random::new(510);
-    for (m, n, t) in draw::shapes() {
+    for shape @ (m, n, t) in draw::fewer_shapes() {
         let mut sets = vec![Vec::new()];
         sets.extend(draw::singles_and_pairs(m, n));
         for faults in sets {
-            for choice in 0..8_u32 {
+            for choice in draw::all_or_some(&mut random, shape, &draw::CHOICES) {
                 let [received_length, repaired_length, byte] = [0, 1, 2].map(|place| choice >> place & 1 == 1);
                 let params = draw::damaged_code(&mut random, m, n, t, &faults);
                 let right = n as usize;
-                let wrong = random.pick(&[0, right - 1, right + 1, 2 * right, 256 + right]);
+                let wrong = draw::other_length(&mut random, right);
                 let mut received = random.bits(if received_length { wrong } else { right });
                 if byte && !received.is_empty() {
                     let place = random.below(received.len());

@@ -4,12 +4,11 @@ use std::collections::BTreeSet;
 use zovunelith::{Counts, Lamp, Step};
 use zovunelith_tests::bits::{bits, ones_at, turned, BAD_BYTES};
 use zovunelith_tests::canary::{pointer, pointer_mut, Lent};
-use zovunelith_tests::draw::{self, CodeFault, BAD_LENGTHS, BAD_WIDTHS};
+use zovunelith_tests::draw::{self, other_length, other_lengths, CodeFault, BAD_LENGTHS, BAD_WIDTHS};
 use zovunelith_tests::expect::ride_gives;
 use zovunelith_tests::library::{ride as library, rows as library_rows};
 use zovunelith_tests::random::Random;
-use zovunelith_tests::reference::field;
-use zovunelith_tests::reference::params::{code_a, code_t, Params};
+use zovunelith_tests::reference::params::{code_a, code_t, Params, Shape};
 use zovunelith_tests::reference::repair::Decoder;
 use zovunelith_tests::reference::ride::{self as reference, counts, End, Lists, Ridden, COUNTS, LONGEST};
 use zovunelith_tests::reference::rows::{self, message, Row};
@@ -136,22 +135,16 @@ fn spoil_row(random: &mut Random, lists: &mut Lists, step: usize) {
     (lists.gears[step], lists.lamps[step]) = random.pick(&NO_ROWS);
 }
 
-/// Lengths that are not this one, among them ones that a cut to fewer bits would bring back to it.
-fn other_lengths(length: usize) -> Vec<usize> {
-    let all = [0, length.saturating_sub(1), length + 1, length / 2, 2 * length, length + 256, length + 65536];
-    all.into_iter().filter(|&other| other != length).collect()
+/// A code of each shape.
+fn codes(random: &mut Random, shapes: Vec<Shape>) -> Vec<Code> {
+    shapes.into_iter().map(|(m, n, t)| Code::new(&draw::params(random, m, n, t))).collect()
 }
 
-/// A code of every shape.
-fn codes(random: &mut Random) -> Vec<Code> {
-    draw::shapes().into_iter().map(|(m, n, t)| Code::new(&draw::params(random, m, n, t))).collect()
-}
-
-/// One of every shape that has room for rows.
+/// One of each of the fewer shapes that has room for rows.
 fn decoders(random: &mut Random) -> Vec<Decoder> {
-    let wide = codes(random).into_iter().filter(|code| code.k() >= rows::BITS);
+    let wide = codes(random, draw::fewer_shapes()).into_iter().filter(|code| code.k() >= rows::BITS);
     let decoders: Vec<Decoder> = wide.map(Decoder::new).collect();
-    assert!(decoders.len() >= 15, "only {} shapes were wide enough", decoders.len());
+    assert!(decoders.len() >= 35, "only {} shapes were wide enough", decoders.len());
     decoders
 }
 
@@ -201,17 +194,28 @@ fn every_row_towards_every_message() {
     }
 }
 
-/// Rides on a code of every shape, with room for rows or not. In some of them there are steps that end the ride, and in
-/// some a length that is one off. Every end of a step and of a ride is met.
+/// A short ride on every shape that has room for rows.
+#[test]
+fn rides_of_every_shape() {
+    let mut random = Random::new(1215);
+    for code in codes(&mut random, draw::shapes()).into_iter().filter(|code| code.k() >= rows::BITS) {
+        let lists = any_ride(&mut random, &code, draw::rounds(code.params.shape(), 8));
+        compare_steps(&Decoder::new(code), &lists).0.expect("a ride without a fault");
+    }
+}
+
+/// Rides on codes with room for rows or without. In some of them there are steps that end the ride, and in some a length
+/// that is one off. Every end of a step and of a ride is met.
 #[test]
 fn drawn_rides() {
     let mut random = Random::new(1202);
     let (mut numbers, mut sums) = (BTreeSet::new(), [0; COUNTS]);
-    for code in codes(&mut random) {
+    for code in codes(&mut random, draw::fewer_shapes()) {
         let (n, narrow) = (code.length(), code.k() < rows::BITS);
         let decoder = Decoder::new(code);
-        for _ in 0..30 {
-            let steps = random.below(12);
+        let shape = decoder.code.params.shape();
+        for _ in 0..draw::rounds(shape, 30) {
+            let steps = random.below(if n <= 128 { 12 } else { 4 });
             let mut lists =
                 if narrow { any_lists(&mut random, n, steps) } else { any_ride(&mut random, &decoder.code, steps) };
             for step in 0..steps {
@@ -251,7 +255,7 @@ fn drawn_rides() {
 fn counts_add_up() {
     let mut random = Random::new(1203);
     for code in decoders(&mut random).into_iter().map(|decoder| decoder.code) {
-        for steps in [0, 1, 2, 30] {
+        for steps in [0, 1, 2, draw::rounds(code.params.shape(), 30)] {
             let lists = any_ride(&mut random, &code, steps);
             let mut ridden = [7; COUNTS];
             let answer = library::lists(&code.params, [&lists.gears, &lists.lamps, &lists.turned], &mut ridden);
@@ -270,10 +274,13 @@ fn at_most_t_places() {
     for decoder in decoders(&mut random) {
         let (n, t) = (decoder.code.length(), decoder.code.params.t as usize);
         let mut lists = Lists::default();
-        for (row, weight) in rows::rows().into_iter().flat_map(|row| (0..=t).map(move |weight| (row, weight))) {
-            push(&mut lists, row, &ones_at(n, &random.places(n, weight)));
+        let shape = decoder.code.params.shape();
+        for weight in draw::every_place(&mut random, shape, t + 1) {
+            for row in draw::all_or_some(&mut random, shape, &rows::rows()) {
+                push(&mut lists, row, &ones_at(n, &random.places(n, weight)));
+            }
         }
-        let steps = 18 * (t as u32 + 1);
+        let steps = lists.gears.len() as u32;
         assert_eq!(compare_steps(&decoder, &lists), (Ok(()), [steps, steps, 0, 0]));
     }
 }
@@ -301,7 +308,7 @@ fn every_mark() {
     for decoder in decoders(&mut random) {
         let n = decoder.code.length();
         let bytes = if n == 16 { (2..=u8::MAX).collect() } else { BAD_BYTES.to_vec() };
-        for place in 0..n {
+        for place in draw::every_place(&mut random, decoder.code.params.shape(), n) {
             let mut lists = any_ride(&mut random, &decoder.code, 1);
             let expected = Ridden { answer: Err(8), ..reference::ride_steps(&decoder, &lists) };
             (0..2).for_each(|_| lists.push(1, 0, &vec![0; n]));
@@ -324,7 +331,8 @@ fn the_first_fault_ends_the_ride() {
     for decoder in decoders(&mut random) {
         let n = decoder.code.length();
         let right = any_ride(&mut random, &decoder.code, 6);
-        for (mark, row) in (0..6).flat_map(|mark| (0..6).map(move |row| (mark, row))) {
+        let pairs: Vec<(usize, usize)> = (0..6).flat_map(|mark| (0..6).map(move |row| (mark, row))).collect();
+        for (mark, row) in draw::all_or_some(&mut random, decoder.code.params.shape(), &pairs) {
             let mut lists = right.clone();
             spoil_mark(&mut random, &mut lists, n, mark);
             spoil_row(&mut random, &mut lists, row);
@@ -354,6 +362,9 @@ fn numbers_of_steps() {
         let params = &decoder.code.params;
         let mut lists = any_lists(&mut random, decoder.code.length(), LONGEST + 1);
         assert_eq!(compare(params, &lists, COUNTS), refused(2), "{params:?}");
+        if params.n > 128 {
+            continue; // a thousand steps take their time
+        }
         // The last of a thousand steps is ridden, and ends the ride.
         lists.gears.pop();
         lists.lamps.pop();
@@ -369,7 +380,7 @@ fn numbers_of_steps() {
 #[test]
 fn lengths_alone() {
     let mut random = Random::new(1208);
-    for code in codes(&mut random) {
+    for code in codes(&mut random, draw::fewer_shapes()) {
         let (params, n) = (&code.params, code.length());
         for steps in [0, 1, 3] {
             let right = any_lists(&mut random, n, steps);
@@ -397,7 +408,7 @@ fn lengths_alone() {
             for length in BAD_LENGTHS {
                 let params = Params { n: length, ..params.clone() };
                 is_refused(&params, &right, COUNTS);
-                if length <= 256 + 16 {
+                if length <= 1024 {
                     let h = vec![1; length as usize];
                     is_refused(&Params { h, ..params }, &any_lists(&mut random, length as usize, steps), COUNTS);
                 }
@@ -481,7 +492,7 @@ fn null_pointers() {
 fn narrow_codes() {
     let mut random = Random::new(1209);
     let mut narrow = 0;
-    for code in codes(&mut random).into_iter().filter(|code| code.k() < rows::BITS) {
+    for code in codes(&mut random, draw::fewer_shapes()).into_iter().filter(|code| code.k() < rows::BITS) {
         narrow += 1;
         for steps in [0, 1, 2, 5, LONGEST] {
             let mut lists = any_lists(&mut random, code.length(), steps);
@@ -510,7 +521,8 @@ fn every_offset() {
         spoil_row(&mut random, &mut ended, 2);
         for lists in [lists, ended] {
             let expected = reference::ride_steps(&decoder, &lists);
-            for omega in 0..field::size(code.params.m) {
+            let offsets = draw::offsets(&mut random, code.params.m);
+            for omega in draw::all_or_some(&mut random, code.params.shape(), &offsets) {
                 ride_gives(&Params { omega, ..code.params.clone() }, &lists, Lent::marked(COUNTS), &expected);
             }
         }
@@ -559,16 +571,17 @@ enum Fault {
     NoRow,
 }
 
-/// Every fault by itself and every two of them together, on a code of every shape: 1 to 7, then 12, then 8 and 11 in
+/// Every fault by itself and every two of them together, or over large fields some: 1 to 7, then 12, then 8 and 11 in
 /// the order of the steps.
 #[test]
 fn faults_together() {
     use Fault::*;
     let mut random = Random::new(1212);
-    for (m, n, t) in draw::shapes() {
+    for shape @ (m, n, t) in draw::fewer_shapes() {
         let of_code = draw::code_faults(m, n).into_iter().map(Code);
         let all: Vec<Fault> = of_code.chain([Long, Lamps, Turned, Counts, Mark, NoRow]).collect();
-        for faults in [vec![]].into_iter().chain(draw::one_or_two(&all)) {
+        let sets = draw::all_or_some(&mut random, shape, &draw::one_or_two(&all));
+        for faults in [vec![]].into_iter().chain(sets) {
             let has = |fault: Fault| faults.contains(&fault);
             let of_code = faults.iter().filter_map(|fault| if let Code(fault) = fault { Some(*fault) } else { None });
             let of_code: Vec<CodeFault> = of_code.collect();
@@ -583,12 +596,12 @@ fn faults_together() {
                 spoil_row(&mut random, &mut lists, row);
             }
             if has(Lamps) {
-                lists.lamps.resize(random.pick(&other_lengths(steps)), 0);
+                lists.lamps.resize(other_length(&mut random, steps), 0);
             }
             if has(Turned) {
-                lists.turned.resize(random.pick(&other_lengths(steps * n)), 0);
+                lists.turned.resize(other_length(&mut random, steps * n), 0);
             }
-            let counts_length = if has(Counts) { random.pick(&other_lengths(COUNTS)) } else { COUNTS };
+            let counts_length = if has(Counts) { other_length(&mut random, COUNTS) } else { COUNTS };
 
             let length = [Long, Lamps, Turned, Counts].into_iter().any(has).then_some(2);
             let numbers = of_code.iter().map(|fault| fault.number());
@@ -634,7 +647,7 @@ fn steps_in_a_room() {
     let mut random = Random::new(1213);
     for decoder in decoders(&mut random) {
         let (params, n) = (&decoder.code.params, decoder.code.length());
-        for steps in [0, 1, 2, 3, 8] {
+        for steps in [0, 1, 2, 3, draw::rounds(params.shape(), 8)] {
             let mut lists = any_ride(&mut random, &decoder.code, steps);
             let needed = library::room(params, steps);
             assert_eq!(needed, steps * (2 + n));
@@ -661,7 +674,7 @@ fn steps_in_a_room() {
 #[test]
 fn steps_of_other_lengths() {
     let mut random = Random::new(1214);
-    for (m, n, t) in draw::shapes() {
+    for (m, n, t) in draw::fewer_shapes() {
         let params = draw::params(&mut random, m, n, t);
         let bad_width = Params { m: random.pick(&BAD_WIDTHS), ..params.clone() };
         let bad_rows = Params { t: 3, ..params.clone() };
@@ -700,7 +713,7 @@ fn steps_of_other_lengths() {
 fn steps_of_no_code() {
     for n in BAD_LENGTHS {
         let params = Params { n, ..code_t() };
-        let bad_width = Params { m: 9, ..params.clone() };
+        let bad_width = Params { m: 17, ..params.clone() };
         for length in [0, 16, n.min(1024) as usize] {
             let marks = vec![0; length];
             let step = Step { row: zovunelith::Row { gear: 1, lamp: Lamp::Dark }, turned: &marks };

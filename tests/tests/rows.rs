@@ -6,15 +6,14 @@ use zovunelith_tests::draw;
 use zovunelith_tests::expect::{reading_gives, writing_gives};
 use zovunelith_tests::library::rows as library;
 use zovunelith_tests::random::Random;
-use zovunelith_tests::reference::field;
 use zovunelith_tests::reference::params::{code_a, code_t, Params};
 use zovunelith_tests::reference::repair::Decoder;
 use zovunelith_tests::reference::rows::{self as reference, Read, Row};
 use zovunelith_tests::reference::words::Code;
 
 /// Gears and lamps of every kind, among them ones that a cut to fewer bits would bring back in.
-const GEARS: [u32; 15] = [0, 1, 2, 3, 4, 5, 6, 7, 8, 9, 256, 256 + 1, 256 + 7, 65536, u32::MAX];
-const LAMPS: [u32; 10] = [0, 1, 2, 3, 4, 8, 256, 256 + 2, 1 << 31, u32::MAX];
+const GEARS: [u32; 16] = [0, 1, 2, 3, 4, 5, 6, 7, 8, 9, 256, 256 + 1, 256 + 7, 65536, 65536 + 3, u32::MAX];
+const LAMPS: [u32; 11] = [0, 1, 2, 3, 4, 8, 256, 256 + 2, 65536 + 1, 1 << 31, u32::MAX];
 
 /// Whether a gear and a lamp are a row.
 fn allowed(gear: u32, lamp: u32) -> bool {
@@ -47,16 +46,17 @@ fn cases() {
     reading_gives(&code_a(), &[1, 0, 1, 1], Lent::marked(4), &Err(12));
 }
 
-/// Every row and many that are none, on code T and on codes of every shape.
+/// Every row and many that are none, on code T and on codes of fewer shapes.
 #[test]
 fn rows_and_others_written() {
     let mut random = Random::new(601);
-    let codes: Vec<Params> = draw::shapes().into_iter().map(|(m, n, t)| draw::params(&mut random, m, n, t)).collect();
+    let shapes = draw::fewer_shapes().into_iter();
+    let codes: Vec<Params> = shapes.map(|(m, n, t)| draw::params(&mut random, m, n, t)).collect();
     let mut written = 0;
     for params in codes.into_iter().chain([code_t()]) {
         let code = Code::new(&params);
         for gear in GEARS {
-            for lamp in LAMPS {
+            for lamp in draw::all_or_some(&mut random, params.shape(), &LAMPS) {
                 let expected = if code.k() < 5 {
                     Err(12)
                 } else if allowed(gear, lamp) {
@@ -111,39 +111,64 @@ fn all_messages_of_the_toy_example() {
     }
 }
 
-/// Codes of every shape that are wide enough: rows with every number of turned bits from 0 to n.
+/// Every shape with room for rows: a row, written, and read with t turned bits.
 #[test]
 fn rows_of_every_shape() {
-    let mut random = Random::new(603);
+    let mut random = Random::new(609);
     let mut shapes = 0;
     for (m, n, t) in draw::shapes() {
+        let decoder = decoder(&mut random, m, n, t);
+        if decoder.code.k() >= 5 {
+            shapes += 1;
+            let row = random.pick(&reference::rows());
+            row_goes_round(&mut random, &decoder, row, &[t as usize]);
+        }
+    }
+    assert!(shapes >= 150, "only {shapes} shapes were wide enough");
+}
+
+/// Codes with room for rows: rows with every number of turned bits from 0 to n, or over large fields some with some.
+#[test]
+fn rows_of_fewer_shapes() {
+    let mut random = Random::new(603);
+    let mut shapes = 0;
+    for shape @ (m, n, t) in draw::fewer_shapes() {
         let decoder = decoder(&mut random, m, n, t);
         if decoder.code.k() < 5 {
             continue;
         }
         shapes += 1;
-        for row in reference::rows() {
-            let word = decoder.code.encode(&reference::message(row, decoder.code.k()));
-            writing_gives(&decoder.code.params, row.gear, row.lamp, decoder.code.length(), &Ok(word.clone()));
-            for weight in 0..=t as usize {
-                let received = turned(&word, &random.places(decoder.code.length(), weight));
-                assert_eq!(compare(&decoder, &received), Ok((row, word.clone(), weight as u32)));
-            }
+        for row in draw::all_or_some(&mut random, shape, &reference::rows()) {
+            let weights: Vec<usize> = (0..=t as usize).collect();
+            let weights = draw::all_or_some(&mut random, shape, &weights);
+            row_goes_round(&mut random, &decoder, row, &weights);
         }
-        for weight in 0..=decoder.code.length() {
+        for weight in draw::every_place(&mut random, shape, decoder.code.length() + 1) {
             let row = random.pick(&reference::rows());
             let word = decoder.code.encode(&reference::message(row, decoder.code.k()));
             compare(&decoder, &turned(&word, &random.places(decoder.code.length(), weight))).ok();
         }
     }
-    assert!(shapes >= 15, "only {shapes} shapes were wide enough");
+    assert!(shapes >= 35, "only {shapes} shapes were wide enough");
+}
+
+/// Writes a row, and reads it with these numbers of turned bits, none above t.
+#[track_caller]
+fn row_goes_round(random: &mut Random, decoder: &Decoder, row: Row, weights: &[usize]) {
+    let code = &decoder.code;
+    let word = code.encode(&reference::message(row, code.k()));
+    writing_gives(&code.params, row.gear, row.lamp, code.length(), &Ok(word.clone()));
+    for &weight in weights {
+        let received = turned(&word, &random.places(code.length(), weight));
+        assert_eq!(compare(decoder, &received), Ok((row, word.clone(), weight as u32)));
+    }
 }
 
 /// Messages that are no rows: lamp 3, green away from both neutrals, a further bit at each place.
 #[test]
 fn messages_that_are_no_rows() {
     let mut random = Random::new(604);
-    for (m, n, t) in draw::shapes() {
+    for shape @ (m, n, t) in draw::fewer_shapes() {
         let decoder = decoder(&mut random, m, n, t);
         let k = decoder.code.k();
         if k < 5 {
@@ -164,7 +189,7 @@ fn messages_that_are_no_rows() {
             messages.push(message);
         }
         assert_eq!(messages.len(), 14 + k - 5);
-        for message in messages {
+        for message in draw::all_or_some(&mut random, shape, &messages) {
             let weight = random.below(t as usize + 1);
             let received = turned(&decoder.code.encode(&message), &random.places(decoder.code.length(), weight));
             assert_eq!(compare(&decoder, &received), Err(11), "message {message:?}");
@@ -203,11 +228,13 @@ fn narrow_codes() {
 #[test]
 fn every_offset() {
     let mut random = Random::new(606);
-    for (m, n, t) in [(5, 16, 1), (5, 16, 2), (6, 32, 2), (7, 32, 2), (8, 32, 2)] {
+    for (m, n, t) in
+        [(5, 16, 1), (5, 16, 2), (6, 32, 2), (7, 32, 2), (8, 32, 2), (9, 64, 4), (13, 256, 8), (16, 512, 1)]
+    {
         let decoder = decoder(&mut random, m, n, t);
         for row in [Row { gear: 0, lamp: 1 }, Row { gear: 5, lamp: 2 }] {
             let word = decoder.code.encode(&reference::message(row, decoder.code.k()));
-            for omega in 0..field::size(m) {
+            for omega in draw::offsets(&mut random, m) {
                 let params = Params { omega, ..decoder.code.params.clone() };
                 let places = random.places(decoder.code.length(), t as usize);
                 writing_gives(&params, row.gear, row.lamp, decoder.code.length(), &Ok(word.clone()));
@@ -244,16 +271,16 @@ fn buffers_with_other_contents() {
 #[test]
 fn faults_together() {
     let mut random = Random::new(608);
-    for (m, n, t) in draw::shapes() {
+    for shape @ (m, n, t) in draw::fewer_shapes() {
         let mut sets = vec![Vec::new()];
         sets.extend(draw::singles_and_pairs(m, n));
         for faults in sets {
-            for choice in 0..8_u32 {
+            for choice in draw::all_or_some(&mut random, shape, &draw::CHOICES) {
                 let [length, other_length, last] = [0, 1, 2].map(|place| choice >> place & 1 == 1);
                 let params = draw::damaged_code(&mut random, m, n, t, &faults);
                 let narrow = faults.is_empty() && Code::new(&params).k() < 5;
                 let right = n as usize;
-                let wrong = random.pick(&[0, right - 1, right + 1, 2 * right, 256 + right]);
+                let wrong = draw::other_length(&mut random, right);
                 let of_code = |length: bool| {
                     let numbers = faults.iter().map(|fault| fault.number());
                     numbers.chain(length.then_some(2)).min().or(narrow.then_some(12))

@@ -11,7 +11,6 @@ use zovunelith_tests::expect::{
 use zovunelith_tests::library;
 use zovunelith_tests::random::Random;
 use zovunelith_tests::reference::columns::{block_count, Selection, Setting};
-use zovunelith_tests::reference::field;
 use zovunelith_tests::reference::params::{code_a, code_t, Params};
 use zovunelith_tests::reference::repair::Decoder;
 use zovunelith_tests::reference::rows::{self, Row};
@@ -105,15 +104,27 @@ fn seven_and_eight_blocks() {
     reading_gives(&eight, &turned(&first_dark, &[0, 8]), Lent::marked(16), &Ok(read));
 }
 
-/// Any number of blocks of codes of every shape.
+/// Some blocks of codes of every shape.
+#[test]
+fn selections_of_every_shape() {
+    let mut random = Random::new(920);
+    for (m, n, t) in draw::shapes() {
+        let params = draw::params(&mut random, m, n, t);
+        let count = 1 + random.below(block_count(&params));
+        let selection = draw::selection(&mut random, &params, count);
+        compare_all(&mut random, &selection, &Decoder::new(selection.code()));
+    }
+}
+
+/// Every number of blocks, or over large fields some.
 #[test]
 fn selections_of_every_length() {
     let mut random = Random::new(901);
-    for (m, n, t) in draw::shapes() {
-        for _ in 0..6 {
+    for shape @ (m, n, t) in draw::fewer_shapes() {
+        for _ in 0..draw::rounds(shape, 6) {
             let params = draw::params(&mut random, m, n, t);
-            for count in 1..=block_count(&params) {
-                let selection = draw::selection(&mut random, &params, count);
+            for count in draw::every_place(&mut random, shape, block_count(&params)) {
+                let selection = draw::selection(&mut random, &params, count + 1);
                 compare_all(&mut random, &selection, &Decoder::new(selection.code()));
             }
         }
@@ -124,10 +135,11 @@ fn selections_of_every_length() {
 #[test]
 fn reversed_blocks_with_every_shift() {
     let mut random = Random::new(902);
-    for (m, n, t) in draw::shapes() {
+    for shape @ (m, n, t) in draw::fewer_shapes() {
         let mut selection = Selection::all(&draw::params(&mut random, m, n, t));
         selection.blocks.reverse();
-        for shift in draw::places_to_try(&mut random, t as usize) {
+        let shifts = draw::places_to_try(&mut random, shape, t as usize);
+        for shift in draw::all_or_some(&mut random, shape, &shifts) {
             selection.shifts.fill(shift as u32);
             compare_all(&mut random, &selection, &Decoder::new(selection.code()));
         }
@@ -139,27 +151,27 @@ fn reversed_blocks_with_every_shift() {
 #[test]
 fn all_blocks_are_the_whole_code() {
     let mut random = Random::new(903);
-    for (m, n, t) in draw::shapes() {
+    for shape @ (m, n, t) in draw::fewer_shapes() {
         let params = draw::params(&mut random, m, n, t);
         let decoder = Decoder::new(words::Code::new(&params));
         let all = Selection::all(&params);
-        for _ in 0..4 {
+        for _ in 0..draw::rounds(shape, 4) {
             compare_all(&mut random, &params, &decoder);
             compare_all(&mut random, &all, &decoder);
         }
     }
 }
 
-/// Each block for itself with every shift. Its columns are a matrix with an inverse, so that it has no message columns,
-/// and every word is repaired to zero.
+/// Each block for itself with every shift, or over large fields some. Its columns are a matrix with an inverse, so that
+/// it has no message columns, and every word is repaired to zero.
 #[test]
 fn single_blocks() {
     let mut random = Random::new(904);
-    for (m, n, t) in draw::shapes() {
+    for shape @ (m, n, t) in draw::fewer_shapes() {
         let (params, length) = (draw::params(&mut random, m, n, t), t as usize);
-        for block in 0..n / t {
-            for shift in 0..t {
-                let single = selection(params.clone(), &[block], &[shift]);
+        for block in draw::every_place(&mut random, shape, block_count(&params)) {
+            for shift in draw::every_place(&mut random, shape, length) {
+                let single = selection(params.clone(), &[block as u32], &[shift as u32]);
                 roles_give(&single, length, &Ok((vec![0; length], 0)));
                 encoding_gives(&single, &[], length, &Ok(vec![0; length]));
                 message_gives(&single, &random.bits(length), 0, &Ok(vec![]));
@@ -177,11 +189,11 @@ fn single_blocks() {
 #[test]
 fn syndromes_of_single_places() {
     let mut random = Random::new(905);
-    for (m, n, t) in draw::shapes() {
+    for shape @ (m, n, t) in draw::fewer_shapes() {
         let params = draw::params(&mut random, m, n, t);
         for count in [1 + random.below(block_count(&params)), block_count(&params)] {
             let selection = draw::selection(&mut random, &params, count);
-            for place in 0..selection.length() {
+            for place in draw::every_place(&mut random, shape, selection.length()) {
                 let (b, r) = (place / t as usize, place as u32 % t);
                 let column = selection.blocks[b] * t + (r ^ selection.shifts[b]);
                 let entries: Vec<Elem> = (0..t).map(|i| params.h[(i ^ column) as usize]).collect();
@@ -197,9 +209,9 @@ fn syndromes_of_single_places() {
 #[test]
 fn words_within_the_whole_code() {
     let mut random = Random::new(906);
-    for (m, n, t) in draw::shapes() {
+    for shape @ (m, n, t) in draw::fewer_shapes() {
         let params = draw::params(&mut random, m, n, t);
-        for _ in 0..4 {
+        for _ in 0..draw::rounds(shape, 4) {
             let count = 1 + random.below(block_count(&params));
             let selection = draw::selection(&mut random, &params, count);
             let mut sent = vec![0; selection.length()];
@@ -248,6 +260,8 @@ fn all_selections_of_small_codes() {
         (8, 4, 1, 64),
         (8, 8, 2, 632),
         (8, 8, 4, 40),
+        (16, 4, 1, 64),
+        (16, 8, 4, 40),
     ] {
         let selections = all_selections(&draw::params(&mut random, m, n, t));
         assert_eq!(selections.len(), count, "{m}, {n}, {t}");
@@ -267,9 +281,10 @@ fn all_selections_of_small_codes() {
 fn turned_places_of_every_number() {
     let mut random = Random::new(908);
     let (mut repaired, mut too_far) = (0, 0);
-    for (m, n, t) in draw::shapes().into_iter().filter(|shape| shape.2 <= 8) {
+    for shape @ (m, n, t) in draw::fewer_shapes().into_iter().filter(|shape| shape.2 <= 8) {
         let params = draw::params(&mut random, m, n, t);
-        for count in 1..=block_count(&params).min(16 / t as usize) {
+        let counts: Vec<usize> = (1..=block_count(&params).min(16 / t as usize)).collect();
+        for count in draw::all_or_some(&mut random, shape, &counts) {
             let selection = draw::selection(&mut random, &params, count);
             let decoder = Decoder::new(selection.code());
             for weight in 0..=selection.length() {
@@ -285,13 +300,13 @@ fn turned_places_of_every_number() {
     assert!(repaired > 1000 && too_far > 1000, "{repaired} repaired, {too_far} too far");
 }
 
-/// Every row with every number of turned places up to t, over selections that are wide enough, and messages that are
-/// no rows.
+/// Every row with every number of turned places up to t, or over large fields some, in selections that are wide enough;
+/// and messages that are no rows.
 #[test]
 fn rows_over_wide_selections() {
     let mut random = Random::new(909);
     let mut wide = 0;
-    for (m, n, t) in draw::shapes() {
+    for shape @ (m, n, t) in draw::fewer_shapes() {
         let params = draw::params(&mut random, m, n, t);
         let count = enough_blocks(&params);
         for count in [count, (count + block_count(&params)) / 2] {
@@ -302,10 +317,10 @@ fn rows_over_wide_selections() {
                 continue;
             }
             wide += 1;
-            for row in rows::rows() {
+            for row in draw::all_or_some(&mut random, shape, &rows::rows()) {
                 let sent = code.encode(&rows::message(row, code.k()));
                 writing_gives(&selection, row.gear, row.lamp, length, &Ok(sent.clone()));
-                for weight in 0..=t as usize {
+                for weight in draw::every_place(&mut random, shape, t as usize + 1) {
                     let received = turned(&sent, &random.places(length, weight));
                     let expected = Ok((row, sent.clone(), weight as u32));
                     reading_gives(&selection, &received, Lent::marked(length), &expected);
@@ -321,7 +336,7 @@ fn rows_over_wide_selections() {
             }
         }
     }
-    assert!(wide >= 40, "only {wide} selections were wide enough");
+    assert!(wide >= 70, "only {wide} selections were wide enough");
 }
 
 /// So many blocks that there are five message columns, or all where that needs more: the rank is at most m·t.
@@ -341,11 +356,20 @@ fn no_rows(k: usize) -> Vec<Vec<u8>> {
 #[test]
 fn every_offset() {
     let mut random = Random::new(910);
-    for (m, n, t, count) in [(3, 4, 1, 3), (4, 8, 2, 3), (5, 16, 2, 7), (6, 32, 2, 10), (8, 64, 4, 11)] {
+    for (m, n, t, count) in [
+        (3, 4, 1, 3),
+        (4, 8, 2, 3),
+        (5, 16, 2, 7),
+        (6, 32, 2, 10),
+        (8, 64, 4, 11),
+        (9, 256, 16, 11),
+        (12, 32, 2, 15),
+        (16, 512, 8, 20),
+    ] {
         let params = draw::params(&mut random, m, n, t);
         let mut selection = draw::selection(&mut random, &params, count);
         let decoder = Decoder::new(selection.code());
-        for omega in 0..field::size(m) {
+        for omega in draw::offsets(&mut random, m) {
             selection.params.omega = omega;
             compare_all(&mut random, &selection, &decoder);
         }
@@ -356,7 +380,7 @@ fn every_offset() {
 #[test]
 fn buffers_with_other_contents() {
     let mut random = Random::new(911);
-    for (m, n, t) in draw::shapes() {
+    for shape @ (m, n, t) in draw::fewer_shapes() {
         let params = draw::params(&mut random, m, n, t);
         let selection = draw::selection(&mut random, &params, enough_blocks(&params));
         let decoder = Decoder::new(selection.code());
@@ -364,7 +388,8 @@ fn buffers_with_other_contents() {
         let message = random.bits(code.k());
         let sent = code.encode(&message);
         let received = turned(&sent, &random.places(length, t as usize));
-        for contents in [&random.bits(length), &sent, &received, &vec![0; length], &vec![255; length]] {
+        let contents = [random.bits(length), sent.clone(), received.clone(), vec![0; length], vec![255; length]];
+        for contents in &draw::all_or_some(&mut random, shape, &contents) {
             let mut lent = Lent::holding(contents);
             assert_eq!(library::words::roles(&selection, lent.slice_mut()), Ok(code.k() as u32));
             lent.assert_holds(Some(&code.roles));
@@ -381,12 +406,14 @@ fn buffers_with_other_contents() {
     }
 }
 
-/// A selection of some blocks of a code of every shape, and one of all its blocks, with faultless input for each.
+/// A selection of some blocks of a code of fewer shapes, and one of all its blocks, with faultless input for each; over
+/// large fields one of the two.
 fn selections_with_input(random: &mut Random) -> Vec<(Selection, Input)> {
     let mut drawn = Vec::new();
-    for (m, n, t) in draw::shapes() {
+    for shape @ (m, n, t) in draw::fewer_shapes() {
         let params = draw::params(random, m, n, t);
-        for count in [1 + random.below(block_count(&params)), block_count(&params)] {
+        let counts = [1 + random.below(block_count(&params)), block_count(&params)];
+        for count in draw::all_or_some(random, shape, &counts) {
             let selection = draw::selection(random, &params, count);
             let input = Input::new(random, &Decoder::new(selection.code()));
             drawn.push((selection, input));
@@ -396,8 +423,9 @@ fn selections_with_input(random: &mut Random) -> Vec<(Selection, Input)> {
 }
 
 /// Numbers of `bound` or more, among them ones that a cut to fewer bits would take to `good`.
-fn too_great(bound: u32, good: u32) -> [u32; 7] {
-    [bound, bound + 1, 2 * bound, 256 + good, 65536 + good, (1 << 31) + good, u32::MAX]
+fn too_great(bound: u32, good: u32) -> Vec<u32> {
+    let all = [bound, bound + 1, 2 * bound, 256 + good, 512 + good, 65536 + good, (1 << 31) + good, u32::MAX];
+    all.into_iter().filter(|&number| number >= bound).collect()
 }
 
 /// A block of n/t or more at any place is 14.
@@ -405,8 +433,9 @@ fn too_great(bound: u32, good: u32) -> [u32; 7] {
 fn blocks_beyond_the_last() {
     let mut random = Random::new(912);
     for (selection, input) in selections_with_input(&mut random) {
-        for place in draw::places_to_try(&mut random, selection.blocks.len()) {
-            for block in too_great(block_count(&selection.params) as u32, selection.blocks[place]) {
+        for place in draw::places_to_try(&mut random, selection.params.shape(), selection.blocks.len()) {
+            let blocks = too_great(block_count(&selection.params) as u32, selection.blocks[place]);
+            for block in draw::all_or_some(&mut random, selection.params.shape(), &blocks) {
                 let mut damaged = selection.clone();
                 damaged.blocks[place] = block;
                 input.is_refused_by_all(&damaged, 14);
@@ -420,7 +449,7 @@ fn blocks_beyond_the_last() {
 fn blocks_named_twice() {
     let mut random = Random::new(913);
     for (selection, input) in selections_with_input(&mut random) {
-        let places = draw::places_to_try(&mut random, selection.blocks.len());
+        let places = draw::places_to_try(&mut random, selection.params.shape(), selection.blocks.len());
         for (index, &one) in places.iter().enumerate() {
             for &other in &places[..index] {
                 let mut damaged = selection.clone();
@@ -436,8 +465,9 @@ fn blocks_named_twice() {
 fn shifts_of_t_or_more() {
     let mut random = Random::new(914);
     for (selection, input) in selections_with_input(&mut random) {
-        for place in draw::places_to_try(&mut random, selection.shifts.len()) {
-            for shift in too_great(selection.params.t, selection.shifts[place]) {
+        for place in draw::places_to_try(&mut random, selection.params.shape(), selection.shifts.len()) {
+            let shifts = too_great(selection.params.t, selection.shifts[place]);
+            for shift in draw::all_or_some(&mut random, selection.params.shape(), &shifts) {
                 let mut damaged = selection.clone();
                 damaged.shifts[place] = shift;
                 input.is_refused_by_all(&damaged, 15);
@@ -452,15 +482,18 @@ fn shifts_of_t_or_more() {
 fn lists_of_other_lengths() {
     let mut random = Random::new(915);
     for (selection, input) in selections_with_input(&mut random) {
-        let (count, most) = (selection.blocks.len(), block_count(&selection.params));
-        for length in [0, most + 1, most + 2, 2 * most, 256 + count] {
+        let (count, most, t) = (selection.blocks.len(), block_count(&selection.params), selection.params.t as usize);
+        let lengths = [most + 1, most + 2, 2 * most, 256 + count, 512 + count, 65536 + count];
+        // Too many blocks, but not so many that their words would be very long.
+        let too_many = lengths.into_iter().filter(|&length| length > most && length * t < 70_000);
+        for length in too_many.chain([0]) {
             let (mut damaged, mut input) = (selection.clone(), input.clone());
             damaged.blocks.resize(length, 0);
             damaged.shifts.resize(length, 0);
             input.resize(damaged.length());
             input.is_refused_by_all(&damaged, 2);
         }
-        for length in [0, count - 1, count + 1, most, 2 * count, 256 + count] {
+        for length in [0, count - 1, count + 1, most, 2 * count, 256 + count, 65536 + count] {
             let mut damaged = selection.clone();
             damaged.shifts.resize(length, 0);
             if length != count {
@@ -476,7 +509,7 @@ fn words_of_other_lengths() {
     let mut random = Random::new(916);
     for (selection, input) in selections_with_input(&mut random) {
         let (right, t, n) = (selection.length(), selection.params.t as usize, selection.params.n as usize);
-        let lengths = [0, right - t, right - 1, right + 1, right + t, 2 * right, n, 256 + right];
+        let lengths = [0, right - t, right - 1, right + 1, right + t, 2 * right, n, 256 + right, 65536 + right];
         for length in lengths.into_iter().filter(|&length| length != right) {
             let mut both = input.clone();
             both.resize(length);
@@ -493,7 +526,7 @@ fn words_of_other_lengths() {
                 input.is_refused(call, &selection, 2);
             }
         }
-        for length in [0, t - 1, t + 1, right, n, 256 + t].into_iter().filter(|&length| length != t) {
+        for length in [0, t - 1, t + 1, right, n, 256 + t, 65536 + t].into_iter().filter(|&length| length != t) {
             let input = Input { syndrome_length: length, ..input.clone() };
             assert_eq!(input.number(Call::Syndrome, &selection), Some(2));
             input.is_refused(Call::Syndrome, &selection, 2);
@@ -507,8 +540,8 @@ fn messages_of_other_lengths() {
     let mut random = Random::new(917);
     for (selection, input) in selections_with_input(&mut random) {
         let (right, whole) = (input.message.len(), words::Code::new(&selection.params).k());
-        let lengths = [0, right.saturating_sub(1), right + 1, whole, selection.length(), 256 + right];
-        for length in lengths.into_iter().filter(|&length| length != right) {
+        let lengths = draw::other_lengths(right).into_iter().chain([whole, selection.length()]);
+        for length in lengths.filter(|&length| length != right) {
             let input = Input { message: random.bits(length), ..input.clone() };
             for call in [Call::Encode, Call::Message] {
                 assert_eq!(input.number(call, &selection), Some(2));
@@ -523,7 +556,7 @@ fn messages_of_other_lengths() {
 fn bytes_that_are_no_bits() {
     let mut random = Random::new(918);
     for (selection, input) in selections_with_input(&mut random) {
-        for place in draw::places_to_try(&mut random, input.word.len()) {
+        for place in draw::places_to_try(&mut random, selection.params.shape(), input.word.len()) {
             let mut damaged = input.clone();
             damaged.word[place] = random.pick(&BAD_BYTES);
             for call in [Call::Syndrome, Call::Message, Call::Repair] {
@@ -532,7 +565,7 @@ fn bytes_that_are_no_bits() {
             let number = if input.message.len() < rows::BITS { 12 } else { 8 };
             damaged.is_refused(Call::ReadRow, &selection, number);
         }
-        for place in draw::places_to_try(&mut random, input.message.len()) {
+        for place in draw::places_to_try(&mut random, selection.params.shape(), input.message.len()) {
             let mut damaged = input.clone();
             damaged.message[place] = random.pick(&BAD_BYTES);
             damaged.is_refused(Call::Encode, &selection, 8);
@@ -655,10 +688,10 @@ impl Intact {
         }
         if has(Fault::ShiftsLength) {
             let right = selection.shifts.len();
-            selection.shifts.resize(random.pick(&[right.saturating_sub(1), right + 1, 256 + right]), 0);
+            selection.shifts.resize(draw::other_length(random, right), 0);
         }
         let right = selection.length();
-        let wrong = random.pick(&[right.saturating_sub(1), right + 1, 256 + right]);
+        let wrong = draw::other_length(random, right);
         input.resize(right);
         if has(Fault::WordLength) {
             input.word.resize(wrong, 0);
@@ -689,13 +722,14 @@ fn first_number(call: Call, faults: &[Fault], k: usize, selection: &Selection, i
     faults.filter(|fault| fault.concerns(call)).map(Fault::rank).min().map(|rank| rank.1)
 }
 
-/// Every fault and every two of them, in every call that can have them: the one that is looked for first is given.
+/// Every fault and every two of them, or over large fields some, in every call that can have them: the one that is
+/// looked for first is given.
 #[test]
 fn faults_together() {
     use Fault::*;
     let mut random = Random::new(919);
     let mut refused = 0;
-    for (m, n, t) in draw::shapes() {
+    for shape @ (m, n, t) in draw::fewer_shapes() {
         let params = draw::params(&mut random, m, n, t);
         let least = enough_blocks(&params);
         let count = least + random.below(block_count(&params) - least + 1);
@@ -705,7 +739,8 @@ fn faults_together() {
         let mut faults: Vec<Fault> = draw::code_faults(m, n).into_iter().map(Code).collect();
         faults.extend([SyndromeLength, NoBlocks, TooManyBlocks, ShiftsLength, WordLength, RepairedLength]);
         faults.extend([BeyondTheLast, NamedTwice, Shift, MessageLength, Narrow, NoBit, TooFar, NoRow]);
-        for faults in [vec![]].into_iter().chain(draw::one_or_two(&faults)) {
+        let sets = draw::all_or_some(&mut random, shape, &draw::one_or_two(&faults));
+        for faults in [vec![]].into_iter().chain(sets) {
             let intact = if faults.contains(&Narrow) { &narrow } else { &wide };
             let Some((selection, input)) = intact.damaged(&mut random, &faults) else {
                 continue;

@@ -5,7 +5,7 @@ use zovunelith_tests::draw;
 use zovunelith_tests::library::sheet::{self as library, LONGEST, NO_ROOM};
 use zovunelith_tests::random::Random;
 use zovunelith_tests::reference::field;
-use zovunelith_tests::reference::params::{code_a, code_t, Params};
+use zovunelith_tests::reference::params::{code_a, code_t, Params, LENGTHS};
 use zovunelith_tests::reference::sheet as reference;
 use zovunelith_tests::Elem;
 
@@ -27,28 +27,44 @@ fn compare_lent(text: &[u8], room: usize) -> Result<Vec<u8>, u32> {
     expected
 }
 
-/// The same with room for every listing.
+/// The same with room for the listing, which is less than five times as long as its sheet.
 #[track_caller]
 fn compare(text: &[u8]) -> Result<Vec<u8>, u32> {
-    compare_lent(text, LONGEST)
+    compare_lent(text, LONGEST.min(5 * text.len()))
 }
 
 #[test]
 fn cases() {
-    let sheet = b"   3   4   1   0\n   7   2   3   4\n";
-    let listing = b"   3   4   1   0   3   1\n   0   7   0   0\n   1   2   1   0\n   2   3   2   0\n   3   4   3   1\n";
-    assert_eq!(compare(sheet), Ok(listing.to_vec()));
-    assert_eq!(compare(b"   3   4   1   0\n   7   2   3   5\n"), Err(5));
+    let sheet = "     3     4     1     0\n     7     2     3     4\n";
+    let listing = concat!(
+        "     3     4     1     0     3     1\n",
+        "     0     7     0     0\n",
+        "     1     2     1     0\n",
+        "     2     3     2     0\n",
+        "     3     4     3     1\n",
+    );
+    assert_eq!(compare(sheet.as_bytes()), Ok(listing.as_bytes().to_vec()));
+    assert_eq!(compare(b"     3     4     1     0\n     7     2     3     5\n"), Err(5));
     let listing = compare(&reference::sheet(&code_t())).expect("a listing");
-    assert_eq!(listing[..25], *b"   5  16   2  24  10   6\n");
-    assert_eq!(listing[25..42], *b"   0  12  24   0\n");
+    assert_eq!(listing[..37], *b"     5    16     2    24    10     6\n");
+    assert_eq!(listing[37..62], *b"     0    12    24     0\n");
+}
+
+/// Numbers in four columns, as cards A and T would stand there.
+#[test]
+fn four_columns() {
+    let a = "   3   4   1   0\n   7   2   3   4\n";
+    let t = "   5  16   2  24\n  12   8  10  22  26   9  16  21  14   5  17   4  30  23  25  31\n";
+    for text in [a, t] {
+        assert_eq!(compare(text.as_bytes()), Err(13), "{text:?}");
+    }
 }
 
 #[test]
 fn sheets_of_every_shape() {
     let mut random = Random::new(701);
-    for (m, n, t) in draw::shapes() {
-        for _ in 0..5 {
+    for shape @ (m, n, t) in draw::shapes() {
+        for _ in 0..draw::rounds(shape, 5) {
             compare(&reference::sheet(&draw::params(&mut random, m, n, t))).expect("a listing");
         }
     }
@@ -58,14 +74,14 @@ fn sheets_of_every_shape() {
 #[test]
 fn room_for_the_listing() {
     let mut random = Random::new(702);
-    let longest = compare(&reference::sheet(&draw::params(&mut random, 8, 128, 8))).expect("a listing");
+    let longest = compare(&reference::sheet(&draw::params(&mut random, 16, 512, 8))).expect("a listing");
     assert_eq!(longest.len(), LONGEST);
-    for (m, n, t) in draw::shapes().into_iter().filter(|shape| shape.2 == 1) {
+    for (m, n, t) in draw::fewer_shapes().into_iter().filter(|shape| shape.2 == 1) {
         let sheet = reference::sheet(&draw::params(&mut random, m, n, t));
-        let length = 25 + 17 * n as usize;
+        let length = 37 + 25 * n as usize;
         compare_lent(&sheet, length).expect("a listing");
         compare_lent(&sheet, length + 1).expect("a listing");
-        for room in [0, 1, 4, 5, 25, length - 17, length - 1] {
+        for room in [0, 1, 6, 7, 37, length - 25, length - 1] {
             assert_eq!(compare_lent(&sheet, room), Err(NO_ROOM));
         }
     }
@@ -75,11 +91,11 @@ fn room_for_the_listing() {
 #[test]
 fn sheets_with_damaged_codes() {
     let mut random = Random::new(703);
-    for (m, n, t) in draw::shapes() {
+    for (m, n, t) in draw::fewer_shapes() {
         for faults in draw::singles_and_pairs(m, n) {
             let params = draw::damaged_code(&mut random, m, n, t, &faults);
             let answer = compare(&reference::sheet(&params));
-            let told = [params.m, params.n, params.t, params.omega].iter().all(|&number| number <= 255);
+            let told = params.n <= 512 && [params.m, params.t, params.omega].iter().all(|&number| number <= 65535);
             let lowest = if told && params.h.len() == params.n as usize {
                 faults.iter().map(|fault| fault.number()).min().expect("a fault")
             } else {
@@ -90,15 +106,16 @@ fn sheets_with_damaged_codes() {
     }
 }
 
-/// Line two has as many entries as line one says, whatever that is; the code is judged once the text is a sheet.
+/// Line two has as many entries as line one says, whatever that is up to 512; the code is judged once the text is a
+/// sheet.
 #[test]
 fn every_length() {
     let mut random = Random::new(704);
-    for n in 0..=255_u32 {
+    for n in 0..=512_u32 {
         let h: Vec<Elem> = (0..n).map(|_| draw::nonzero(&mut random, 5)).collect();
         let params = Params { m: 5, n, t: 1, omega: 0, h };
         let answer = compare(&reference::sheet(&params));
-        if !(2..=128).contains(&n) || !n.is_power_of_two() {
+        if !LENGTHS.contains(&n) {
             assert_eq!(answer, Err(2), "n {n}");
         }
         assert_eq!(compare(&reference::sheet(&Params { m: 1, ..params.clone() })), Err(1));
@@ -114,16 +131,61 @@ fn every_length() {
     }
 }
 
-/// Each of the four numbers of line one over its whole range.
+/// An n above 512 stands on no sheet, whatever stands in line two: as many entries, some of them, or none.
+#[test]
+fn lengths_above_the_longest() {
+    let mut random = Random::new(707);
+    for n in (513..=530).chain([640, 768, 1000, 1023, 1024, 1025, 4096, 9999, 10000, 65534, 65535]) {
+        let h: Vec<Elem> = (0..n).map(|_| draw::nonzero(&mut random, 16)).collect();
+        let params = Params { m: 16, n, t: 1, omega: 0, h };
+        for length in [0, 1, 4, 512, 513, n as usize - 1, n as usize] {
+            let mut params = params.clone();
+            params.h.truncate(length);
+            assert_eq!(compare(&reference::sheet(&params)), Err(13), "n {n}, {length} entries");
+            assert_eq!(compare(&reference::sheet(&Params { m: 1, ..params })), Err(13), "n {n}, {length} entries");
+        }
+    }
+    // A sheet of the longest length, whose n is another.
+    let params = draw::params(&mut random, 16, 512, 1);
+    compare(&reference::sheet(&params)).expect("a listing");
+    for n in [256, 511, 513, 1024, 65535] {
+        assert_eq!(compare(&reference::sheet(&Params { n, ..params.clone() })), Err(13), "n {n}");
+    }
+}
+
+/// Each of the four numbers of line one, over a part of its range that holds all limits, and some beyond.
 #[test]
 fn every_number_of_line_one() {
-    for value in 0..=255 {
+    let spread = (1100..65535).step_by(997).chain([9999, 10000, 32767, 32768, 65535, 65536, 99999, 100_000, 999_999]);
+    for value in (0..=1100).chain(spread) {
         for params in [code_a(), code_t()] {
             compare(&reference::sheet(&Params { m: value, ..params.clone() })).ok();
             compare(&reference::sheet(&Params { t: value, ..params.clone() })).ok();
+            let answer = compare(&reference::sheet(&Params { n: value, ..params.clone() }));
+            assert_eq!(answer.err(), (value != params.n).then_some(13));
             let answer = compare(&reference::sheet(&Params { omega: value, ..params.clone() }));
-            assert_eq!(answer.err(), (value >= field::size(params.m)).then_some(3));
+            let number = if value > 65535 { Some(13) } else { (value >= field::size(params.m)).then_some(3) };
+            assert_eq!(answer.err(), number);
         }
+    }
+}
+
+/// Every number as an entry, in a sheet whose code is refused for it or is not.
+#[test]
+fn every_number_of_line_two() {
+    let params = Params { m: 16, n: 2, t: 1, omega: 0, h: vec![1, 0] };
+    for value in 0..=Elem::MAX {
+        let number = match value {
+            0 => Some(4),
+            1 => Some(6),
+            _ => None,
+        };
+        let sheet = reference::sheet(&Params { h: vec![1, value], ..params.clone() });
+        assert_eq!(compare_lent(&sheet, 37 + 2 * 25).err(), number, "entry {value}");
+    }
+    for value in [65536, 65537, 65536 + 255, 99999, 100_000, 131_071, 999_999] {
+        let sheet = format!("    16     2     1     0\n     1{}\n", reference::number(value));
+        assert_eq!(compare(sheet.as_bytes()), Err(13), "{sheet}");
     }
 }
 
@@ -151,45 +213,51 @@ fn one_byte_away_from_a_sheet() {
     }
 }
 
-/// Four columns that hold no number as a sheet writes it, in each place for a number.
+/// Six columns that hold no number as a sheet writes it, in each place for a number.
 #[test]
 fn columns_that_hold_no_number() {
     let sheet = reference::sheet(&code_a());
-    let starts = [0, 4, 8, 12, 17, 21, 25, 29];
+    let starts = [0, 6, 12, 18, 25, 31, 37, 43];
     for start in starts {
         for columns in [
-            b"    ",
-            b"3   ",
-            b" 3  ",
-            b"  3 ",
-            b"  03",
-            b" 003",
-            b"0003",
-            b"  00",
-            b"0000",
-            b" 0 3",
-            b"3  3",
-            b" 256",
-            b" 299",
-            b" 300",
-            b" 999",
-            b"1000",
-            b"9999",
-            b"1003",
-            b"  +3",
-            b"  -3",
-            b"  -0",
-            b" 0x3",
-            b"   a",
-            b" 3.0",
-            b"   \t",
-            b"\t\t\t3",
-            b"\x00\x00\x003",
-            b"   \x00",
-            b"\xC2\xA0 3",
+            b"      ",
+            b"3     ",
+            b" 3    ",
+            b"    3 ",
+            b"    03",
+            b"   003",
+            b" 00003",
+            b"000003",
+            b"    00",
+            b"000000",
+            b"   0 3",
+            b"3    3",
+            b"  3  3",
+            b" 65536",
+            b" 65600",
+            b" 66000",
+            b" 70000",
+            b" 99999",
+            b"100000",
+            b"100003",
+            b"165535",
+            b"655350",
+            b"999999",
+            b"065535",
+            b"    +3",
+            b"    -3",
+            b"    -0",
+            b"   0x3",
+            b"     a",
+            b"   3.0",
+            b"     \t",
+            b"\t\t\t\t\t3",
+            b"\x00\x00\x00\x00\x003",
+            b"     \x00",
+            b"\xC2\xA0   3",
         ] {
             let mut changed = sheet.clone();
-            changed[start..start + 4].copy_from_slice(columns);
+            changed[start..start + 6].copy_from_slice(columns);
             assert_eq!(compare(&changed), Err(13), "{:?}", String::from_utf8_lossy(&changed));
         }
     }
@@ -198,13 +266,13 @@ fn columns_that_hold_no_number() {
 #[test]
 fn other_texts() {
     let a = reference::sheet(&code_a());
-    let (first, second) = a.split_at(17);
+    let (first, second) = a.split_at(25);
     let texts: Vec<Vec<u8>> = vec![
         vec![],
         b"\n".to_vec(),
         b"\n\n".to_vec(),
         b"\n\n\n".to_vec(),
-        b"   3   4   1   0".to_vec(),
+        b"     3     4     1     0".to_vec(),
         first.to_vec(),
         second.to_vec(),
         [second, first].concat(),
@@ -215,24 +283,24 @@ fn other_texts() {
         [a.as_slice(), &[b' '; 100_000]].concat(),
         [a.as_slice(), &[b'\n'; 100_000]].concat(),
         [first, &[b' '; 100_000], b"\n"].concat(),
-        [first, &b"   1".repeat(300), b"\n"].concat(),
-        [&b"   4".repeat(300)[..], b"\n", second].concat(),
-        [&b"   4".repeat(5)[..], b"\n", second].concat(),
-        [&b"   4".repeat(3)[..], b"\n", second].concat(),
-        b"   3   4   1   0\r\n   7   2   3   4\r\n".to_vec(),
-        b"   3   4   1   0\n   7   2   3   4\r\n".to_vec(),
-        b"   3   4   1\n  0   7   2   3   4\n".to_vec(),
+        [first, &b"     1".repeat(600), b"\n"].concat(),
+        [&b"     4".repeat(600)[..], b"\n", second].concat(),
+        [&b"     4".repeat(5)[..], b"\n", second].concat(),
+        [&b"     4".repeat(3)[..], b"\n", second].concat(),
+        b"     3     4     1     0\r\n     7     2     3     4\r\n".to_vec(),
+        b"     3     4     1     0\n     7     2     3     4\r\n".to_vec(),
+        b"     3     4     1\n     0     7     2     3     4\n".to_vec(),
         b"3 4 1 0\n7 2 3 4\n".to_vec(),
-        b"   9   4   1   0\n   7   2   3   4".to_vec(),
-        b"   3   3   1   0\n   7   2   3   4\n".to_vec(),
+        b"    17     4     1     0\n     7     2     3     4".to_vec(),
+        b"     3     3     1     0\n     7     2     3     4\n".to_vec(),
     ];
     for text in texts {
         assert_eq!(compare(&text), Err(13), "{:?}", String::from_utf8_lossy(&text[..text.len().min(100)]));
     }
     // These are sheets; their codes are refused.
     assert_eq!(compare(&[first, first].concat()), Err(4));
-    assert_eq!(compare(b"   3   0   1   0\n\n"), Err(2));
-    assert_eq!(compare(b"   0   0   0   0\n\n"), Err(1));
+    assert_eq!(compare(b"     3     0     1     0\n\n"), Err(2));
+    assert_eq!(compare(b"     0     0     0     0\n\n"), Err(1));
 }
 
 /// Random sheets with a few bytes replaced, left out, put in or exchanged; most bytes are ones that sheets have.
@@ -271,12 +339,12 @@ fn random_numbers() {
     let mut random = Random::new(706);
     let mut answers = [0; 14];
     for _ in 0..20_000 {
-        let m = random.pick(&[0, 1, 2, 2, 3, 3, 4, 5, 8, 9, 255]);
+        let m = random.pick(&[0, 1, 2, 2, 3, 3, 4, 5, 8, 9, 16, 17, 65535]);
         let n = random.pick(&[0, 1, 2, 2, 2, 3, 4, 4, 8, 16]);
-        let t = random.pick(&[0, 1, 1, 2, 3, 4, 255]);
-        let omega = random.below(256) as u32 >> random.below(8);
-        let bits = random.below(9);
-        let h = (0..n).map(|_| (random.below(256) >> bits) as Elem).collect();
+        let t = random.pick(&[0, 1, 1, 2, 3, 4, 65535]);
+        let omega = random.below(65536) as u32 >> random.below(16);
+        let bits = random.below(17);
+        let h = (0..n).map(|_| (random.below(65536) >> bits) as Elem).collect();
         let answer = compare(&reference::sheet(&Params { m, n, t, omega, h }));
         answers[answer.map_or_else(|number| number as usize, |_| 0)] += 1;
     }

@@ -33,40 +33,54 @@ fn compare(text: &[u8]) -> Vec<u8> {
 
 #[test]
 fn cases() {
-    let listing = b"   3   4   1   0   3   1\n   0   7   0   0\n   1   2   1   0\n   2   3   2   0\n   3   4   3   1\n";
-    assert_eq!(compare(b"   3   4   1   0\n   7   2   3   4\n"), listing);
-    assert_eq!(compare(b"   3   4   1   0\n   7   2   3   5\n"), b"   5\n");
-    assert_eq!(compare(b"   3   4   1   0\n   7   2   3   4"), b"  13\n");
-    assert_eq!(compare(b"   3   0   1   0\n\n"), b"   2\n");
+    let listing = concat!(
+        "     3     4     1     0     3     1\n",
+        "     0     7     0     0\n",
+        "     1     2     1     0\n",
+        "     2     3     2     0\n",
+        "     3     4     3     1\n",
+    );
+    assert_eq!(compare(b"     3     4     1     0\n     7     2     3     4\n"), listing.as_bytes());
+    assert_eq!(compare(b"     3     4     1     0\n     7     2     3     5\n"), b"     5\n");
+    assert_eq!(compare(b"     3     4     1     0\n     7     2     3     4"), b"    13\n");
+    assert_eq!(compare(b"     3     0     1     0\n\n"), b"     2\n");
+    // Four columns.
+    assert_eq!(compare(b"   3   4   1   0\n   7   2   3   4\n"), b"    13\n");
     compare(&reference::sheet(&code_t()));
 }
 
 #[test]
 fn sheets_of_every_shape() {
     let mut random = Random::new(801);
-    for (m, n, t) in draw::shapes() {
+    for shape @ (m, n, t) in draw::fewer_shapes() {
         compare(&reference::sheet(&draw::params(&mut random, m, n, t)));
-        for faults in draw::singles_and_pairs(m, n).iter().take(6) {
+        for faults in draw::singles_and_pairs(m, n).iter().take(draw::rounds(shape, 6)) {
             compare(&reference::sheet(&draw::damaged_code(&mut random, m, n, t, faults)));
         }
     }
 }
 
-/// The longest sheet, longer texts, and much longer ones.
+/// The longest sheets, longer texts, and much longer ones.
 #[test]
 fn long_texts() {
-    let longest = reference::sheet(&Params { m: 8, n: 255, t: 1, omega: 0, h: vec![1; 255] });
-    assert_eq!(compare(&longest), b"   2\n");
+    let of_length = |n: u32| Params { m: 16, n, t: 1, omega: 65535, h: vec![65535; n as usize] };
+    assert_eq!(compare(&reference::sheet(&of_length(511))), b"     2\n");
+    let longest = reference::sheet(&of_length(512));
+    assert_eq!(longest.len(), (4 * 6 + 1) + (512 * 6 + 1));
+    assert_eq!(compare(&longest), b"     6\n");
+    for n in [513, 1024, 65535] {
+        assert_eq!(compare(&reference::sheet(&of_length(n))), b"    13\n");
+    }
     for more in [1, 2, 1000, 1_000_000] {
         let mut text = longest.clone();
         text.resize(longest.len() + more, b' ');
-        assert_eq!(compare(&text), b"  13\n");
+        assert_eq!(compare(&text), b"    13\n");
         text[longest.len()..].fill(b'\n');
-        assert_eq!(compare(&text), b"  13\n");
+        assert_eq!(compare(&text), b"    13\n");
     }
     let sheet = reference::sheet(&code_a());
-    assert_eq!(compare(&sheet.repeat(30_000)), b"  13\n");
-    assert_eq!(compare(&[sheet.as_slice(), &[0; 1_000_000]].concat()), b"  13\n");
+    assert_eq!(compare(&sheet.repeat(30_000)), b"    13\n");
+    assert_eq!(compare(&[sheet.as_slice(), &[0; 1_000_000]].concat()), b"    13\n");
 }
 
 #[test]

@@ -6,7 +6,6 @@ use zovunelith_tests::draw::{self, CodeFault};
 use zovunelith_tests::expect::{encoding_gives, message_gives, roles_give, syndrome_gives};
 use zovunelith_tests::library::words as library;
 use zovunelith_tests::random::Random;
-use zovunelith_tests::reference::field;
 use zovunelith_tests::reference::params::{code_a, code_t, Params};
 use zovunelith_tests::reference::words::{self as reference, Code};
 use zovunelith_tests::Elem;
@@ -39,29 +38,41 @@ fn cases() {
 #[test]
 fn roles_of_every_shape() {
     let mut random = Random::new(401);
-    for (m, n, t) in draw::shapes() {
-        for _ in 0..if n <= 32 { 20 } else { 4 } {
+    for shape @ (m, n, t) in draw::shapes() {
+        for _ in 0..if n <= 32 { 20 } else { draw::rounds(shape, 4) } {
             let code = Code::new(&draw::params(&mut random, m, n, t));
             roles_give(&code.params, code.length(), &Ok((code.roles.clone(), code.k() as u32)));
         }
     }
 }
 
-/// Every message where there are few of them, and random ones elsewhere.
 #[test]
 fn messages_of_every_shape() {
+    let mut random = Random::new(410);
+    for shape @ (m, n, t) in draw::shapes() {
+        let code = Code::new(&draw::params(&mut random, m, n, t));
+        for _ in 0..draw::rounds(shape, 4) {
+            message_goes_round(&code, &random.bits(code.k()));
+        }
+    }
+}
+
+/// Every message where there are few of them; elsewhere random ones, and those with a single 1, or over large fields
+/// some of these.
+#[test]
+fn messages_of_fewer_shapes() {
     let mut random = Random::new(402);
-    for (m, n, t) in draw::shapes() {
+    for shape @ (m, n, t) in draw::fewer_shapes() {
         let code = Code::new(&draw::params(&mut random, m, n, t));
         if code.k() <= 10 {
             for message in 0..1 << code.k() {
                 message_goes_round(&code, &bits(message, code.k()));
             }
         } else {
-            for place in 0..code.k() {
+            for place in draw::every_place(&mut random, shape, code.k()) {
                 message_goes_round(&code, &ones_at(code.k(), &[place]));
             }
-            for _ in 0..50 {
+            for _ in 0..draw::rounds(shape, 50) {
                 message_goes_round(&code, &random.bits(code.k()));
             }
         }
@@ -72,9 +83,9 @@ fn messages_of_every_shape() {
 #[test]
 fn syndromes_of_single_places() {
     let mut random = Random::new(403);
-    for (m, n, t) in draw::shapes() {
+    for shape @ (m, n, t) in draw::fewer_shapes() {
         let params = draw::params(&mut random, m, n, t);
-        for j in 0..n as usize {
+        for j in draw::every_place(&mut random, shape, n as usize) {
             let column = (0..t as usize).map(|i| params.h[i ^ j]).collect();
             syndrome_gives(&params, &ones_at(n as usize, &[j]), t as usize, &Ok(column));
         }
@@ -83,11 +94,11 @@ fn syndromes_of_single_places() {
 
 /// Words with 0 to n ones, code words or not: their syndromes, and the messages in them.
 #[test]
-fn words_of_every_shape() {
+fn words_of_fewer_shapes() {
     let mut random = Random::new(404);
-    for (m, n, t) in draw::shapes() {
+    for shape @ (m, n, t) in draw::fewer_shapes() {
         let code = Code::new(&draw::params(&mut random, m, n, t));
-        for ones in 0..=code.length() {
+        for ones in draw::every_place(&mut random, shape, code.length() + 1) {
             let word = ones_at(code.length(), &random.places(code.length(), ones));
             syndrome_gives(&code.params, &word, t as usize, &Ok(code.syndrome(&word)));
             message_gives(&code.params, &word, code.k(), &Ok(code.message(&word)));
@@ -99,11 +110,13 @@ fn words_of_every_shape() {
 #[test]
 fn buffers_with_other_contents() {
     let mut random = Random::new(405);
-    for (m, n, t) in draw::shapes() {
+    for shape @ (m, n, t) in draw::fewer_shapes() {
         let code = Code::new(&draw::params(&mut random, m, n, t));
         let (message, received) = (random.bits(code.k()), random.bits(code.length()));
         let word = code.encode(&message);
-        for contents in [random.bits(code.length()), vec![0; code.length()], vec![1; code.length()], word.clone()] {
+        let length = code.length();
+        let contents = [random.bits(length), vec![0; length], vec![1; length], word.clone()];
+        for contents in draw::all_or_some(&mut random, shape, &contents) {
             let mut lent = Lent::holding(&contents);
             assert_eq!(library::encode(&code.params, &message, lent.slice_mut()), Ok(()));
             lent.assert_holds(Some(&word));
@@ -124,10 +137,21 @@ fn buffers_with_other_contents() {
 #[test]
 fn every_offset() {
     let mut random = Random::new(406);
-    for (m, n, t) in [(2, 2, 1), (3, 4, 1), (4, 8, 2), (5, 16, 2), (6, 32, 4), (7, 32, 4), (8, 32, 2)] {
+    for (m, n, t) in [
+        (2, 2, 1),
+        (3, 4, 1),
+        (4, 8, 2),
+        (5, 16, 2),
+        (6, 32, 4),
+        (7, 32, 4),
+        (8, 32, 2),
+        (9, 256, 2),
+        (12, 64, 4),
+        (16, 512, 8),
+    ] {
         let code = Code::new(&draw::params(&mut random, m, n, t));
         let (message, received) = (random.bits(code.k()), random.bits(code.length()));
-        for omega in 0..field::size(m) {
+        for omega in draw::offsets(&mut random, m) {
             let params = Params { omega, ..code.params.clone() };
             roles_give(&params, code.length(), &Ok((code.roles.clone(), code.k() as u32)));
             encoding_gives(&params, &message, code.length(), &Ok(code.encode(&message)));
@@ -141,10 +165,10 @@ fn every_offset() {
 #[test]
 fn every_length_of_a_message() {
     let mut random = Random::new(407);
-    for (m, n, t) in draw::shapes() {
+    for shape @ (m, n, t) in draw::fewer_shapes() {
         let code = Code::new(&draw::params(&mut random, m, n, t));
-        let step = if n <= 16 { 1 } else { code.length() / 8 };
-        let beside = [code.k().saturating_sub(1), code.k() + 1, 256 + code.k()];
+        let step = if n <= 16 { 1 } else { code.length() / draw::rounds(shape, 8) };
+        let beside = draw::other_lengths(code.k());
         for length in (0..code.length() + 3).step_by(step).chain(beside).filter(|&length| length != code.k()) {
             let mut message = random.bits(length);
             encoding_gives(&code.params, &message, code.length(), &Err(2));
@@ -160,15 +184,15 @@ fn every_length_of_a_message() {
 #[test]
 fn bytes_that_are_no_bits() {
     let mut random = Random::new(408);
-    for (m, n, t) in draw::shapes() {
+    for shape @ (m, n, t) in draw::fewer_shapes() {
         let code = Code::new(&draw::params(&mut random, m, n, t));
-        for place in draw::places_to_try(&mut random, code.length()) {
+        for place in draw::places_to_try(&mut random, shape, code.length()) {
             let mut word = random.bits(code.length());
             word[place] = random.pick(&BAD_BYTES);
             syndrome_gives(&code.params, &word, t as usize, &Err(8));
             message_gives(&code.params, &word, code.k(), &Err(8));
         }
-        for place in draw::places_to_try(&mut random, code.k()) {
+        for place in draw::places_to_try(&mut random, shape, code.k()) {
             let mut message = random.bits(code.k());
             message[place] = random.pick(&BAD_BYTES);
             encoding_gives(&code.params, &message, code.length(), &Err(8));
@@ -193,15 +217,15 @@ fn first_number(faults: &[CodeFault], length: bool, message_length: bool, byte: 
 #[test]
 fn faults_together() {
     let mut random = Random::new(409);
-    for (m, n, t) in draw::shapes() {
+    for shape @ (m, n, t) in draw::fewer_shapes() {
         let mut sets = vec![Vec::new()];
         sets.extend(draw::singles_and_pairs(m, n));
         for faults in sets {
-            for choice in 0..8_u32 {
+            for choice in draw::all_or_some(&mut random, shape, &draw::CHOICES) {
                 let [length, other_length, byte] = [0, 1, 2].map(|place| choice >> place & 1 == 1);
                 let params = draw::damaged_code(&mut random, m, n, t, &faults);
                 let (right, k) = (n as usize, if faults.is_empty() { Code::new(&params).k() } else { 3 });
-                let wrong = random.pick(&[0, right - 1, right + 1, 2 * right, 256 + right]);
+                let wrong = draw::other_length(&mut random, right);
                 let lent = if length { wrong } else { right };
                 let damage = |mut list: Vec<u8>, random: &mut Random| {
                     if byte && !list.is_empty() {

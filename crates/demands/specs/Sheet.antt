@@ -4,7 +4,8 @@ use mathlib.Core.Path.{_≡_, refl, sym, ap, ap₂, _∙_, subst}
 use mathlib.Core.Logic.{_↔_}
 use mathlib.Core.Bool.{Bool, true, false, cond}
 use mathlib.Core.List.{List, [], _∷_, _++_}
-use Prim.Native.Nat.{ℕ, zero, suc, _-_, _^_, _<_, _≤_}
+use Prim.Native.Nat.{ℕ, zero, suc, _-_, _*_, _^_, _<_, _≤_}
+use native.Mathlib.Nat.{zero-add}
 use native.Mathlib.Omega.{arith}
 use lib.Dec.{lit<}
 use lib.ListN.{length, take, drop}
@@ -20,7 +21,9 @@ use Rattle.refusals.specs.Rules.{fault}
 use Rattle.refusals.specs.RuleLaws.{fault-here, fault-past, fault-empty, refuse, given}
 use Rattle.field.specs.Gf.{gf}
 use Rattle.field.specs.Words.{widest}
-use Rattle.fields.specs.Fields.{greatest, Small}
+use Rattle.slices.specs.Lengths.{longest}
+use Rattle.fields.specs.Fields.{fieldWidth, greatest, lineEnd, Small}
+use Rattle.fields.specs.Ends.{no-earlier-end}
 use Rattle.fields.specs.Reading.{length-numbers, numbers-at, line-small}
 use Rattle.fields.specs.Over.{over}
 use Rattle.signature.specs.Signature.{supportAt}
@@ -34,7 +37,7 @@ use Rattle.parity.specs.ColumnLaws.{messageLength-le}
 use Rattle.parity.specs.Selected.{length-whole}
 use Rattle.parity.specs.Word.{whole}
 use Rattle.sheets.specs.Fault.{sheetRules}
-use Rattle.sheets.specs.Reading.{sheet-second, head-small, sheet-only, sheet-read}
+use Rattle.sheets.specs.Reading.{n-within, sheet-first, sheet-second, head-small, sheet-only, sheet-read}
 use Rattle.sheets.specs.Sheet.{numbersOf, sheetText, second, sheetParameters, sheetN, sheetH, isSheet}
 use Rattle.lines.specs.Lengths.{length-listing}
 use Rattle.lines.specs.Listing.{supportOf, listingText, listingLength, longestListing}
@@ -42,12 +45,13 @@ use Rattle.listing.specs.Answers.{roomRules, sheetListing, listingFault, listin
 use Rattle.listing.specs.Laws.{printed-short, printed-done}
 use Rattle.demands.specs.Lowest.{fault-up-to}
 
--- a text that is printed for a code, whose numbers fit
+-- a text that is printed for a code, whose numbers fit and whose length is within the limit
 pub record PrintedSheet (text : List ℕ) : Type 0 where
   pub numbers : Parameters
   pub signature : List ℕ
   pub numbers-fit : Small (numbersOf numbers)
   pub signature-fits : Small signature
+  pub short : numbers .n ≤ longest
   pub long : length signature ≡ numbers .n
   pub printed : text ≡ sheetText numbers signature
 
@@ -62,6 +66,7 @@ module _ (text : List ℕ) where
             let li = subst (λ (k : ℕ). i < k) (length-numbers text second (sheetN text) (sheet-second text s)) l in
             subst (λ (x : ℕ). x ≤ greatest) (sym (numbers-at text second (sheetN text) (sheet-second text s) i li))
             (line-small text second (sheetN text) (sheet-second text s) i li);
+        short = n-within text s;
         long = length-numbers text second (sheetN text) (sheet-second text s);
         printed = sheet-only text s;
       }
@@ -75,7 +80,11 @@ module _ (text : List ℕ) where
 
   printed-sheet : PrintedSheet text → isSheet text ≡ true
   printed-sheet P =
-      ap isSheet (P .printed) ∙ sheet-read (P .numbers) (P .signature) (P .numbers-fit) (P .signature-fits) (P .long) .sheet
+      ap isSheet (P .printed) ∙ sheet-read (P .numbers) (P .signature) (P .numbers-fit) (P .signature-fits) (P .short) (P .long) .sheet
+
+  refused-13 : isSheet text ≡ false → (out : List ℕ) → listingAnswer text out ≡ Refused 13
+  unfolding listingAnswer listingFault sheetRules
+  refused-13 none out = sym (refuse {k = 13} Refused _ (sym (fault-here 13 _ none)) (λ z. omega arith))
 
   -- a text is refused by 13 exactly if it is no printed sheet
   pub no-sheet-exactly : (out : List ℕ) → (listingAnswer text out ≡ Refused 13) ↔ (PrintedSheet text → ⊥)
@@ -87,10 +96,17 @@ module _ (text : List ℕ) where
         let low = fault-up-to 7 more refl in
         let past : listingFault text out ≡ fault more = fault-past 13 more (printed-sheet P) refl in
         absurd (omega arith),
-    λ none.
-        let not-sheet = refuted (isSheet text) (λ s. none (sheet-printed s)) in
-        sym (refuse {k = 13} Refused _ (sym (fault-here 13 _ not-sheet)) (λ z. omega arith)),
+    λ none. refused-13 (refuted (isSheet text) (λ s. none (sheet-printed s))) out,
   )
+
+  -- so is a text that gives an n above the longest length, whatever else it holds
+  pub long-refused : longest < sheetN text → (out : List ℕ) → listingAnswer text out ≡ Refused 13
+  long-refused l = refused-13 (refuted (isSheet text) (λ s. omega (arith, n-within text s)))
+
+  -- and one whose line one ends before the columns of four numbers do, as that of a sheet in four columns
+  pub early-end-refused : (i : ℕ) → i < 4 * fieldWidth → entryOf text i ≡ lineEnd → (out : List ℕ) → listingAnswer text out ≡ Refused 13
+  early-end-refused i l e =
+      refused-13 (refuted (isSheet text) (λ s. no-earlier-end text 0 4 (sheet-first text s) i l (ap (entryOf text) (zero-add i) ∙ e)))
 
   -- every text is printed, in the stated length at most
   pub always-printed : (out : List ℕ) → longestListing ≤ length out
@@ -110,7 +126,7 @@ small (a ∷ numbers) each zero l = each .0
 small (a ∷ numbers) each (suc i) l = small numbers (each .1) i (omega arith)
 
 module _ {c : Parameters} {h : List ℕ} (A : Accepted c h) where
-  -- elements are at most 255
+  -- no element is greater than the numbers on a sheet
   element-small : {x : ℕ} → x < 2 ^ c .m → x ≤ greatest
   element-small l =
       let wide : 2 ^ c .m ≤ 2 ^ widest = pow-mono (A .limits .width .high) in
@@ -159,7 +175,7 @@ module _ {c : Parameters} {h : List ℕ} (A : Accepted c h) where
       × (take (listingLength (c .n)) (listingAfter (sheetText c h) out) ≡ listingText c h)
   unfolding listingAnswer listingAfter listingFault sheetListing sheetRules roomRules over
   listed out room =
-      let R = sheet-read c h (small (numbersOf c) code-numbers) signature-small (A .limits .h-length) in
+      let R = sheet-read c h (small (numbersOf c) code-numbers) signature-small (n-short (A .limits)) (A .limits .h-length) in
       let text = sheetText c h in
       let rules = roomRules (sheetListing text) out in
       let text-is : listingText (sheetParameters text) (sheetH text) ≡ listingText c h = ap₂ listingText (R .numbers) (R .signature) in

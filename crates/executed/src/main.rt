@@ -3,6 +3,7 @@
 mod formulas;
 mod pairs;
 
+use field::Answer;
 use field::Elem;
 use io::print_decimal;
 use libc::STDOUT_FILENO;
@@ -129,22 +130,54 @@ fn show_width(m: u32) {
     print_outcome(codes::check(code(m, 2, 1, 0), &h, &mut roots, &mut support));
 }
 
-// Whether a length of 3 is accepted, which no signature decides.
+// Whether a signature in the field of width m is accepted, n being its length.
+fn show_length(m: u32, n: u32, h: &[Elem], roots: &mut [Elem], support: &mut [Elem]) {
+    print(b"m");
+    print_number(m as u64);
+    print(b", n");
+    print_number(n as u64);
+    print(b":");
+    print_outcome(codes::check(code(m, n, 1, 0), h, roots, support));
+}
+
+// A length that no signature has.
 fn show_length_3() {
     let h: [Elem; 3] = [1; 3];
     let mut roots: [Elem; 3] = [0; 3];
     let mut support: [Elem; 3] = [0; 3];
-    print(b"n 3:");
-    print_outcome(codes::check(code(8, 3, 1, 0), &h, &mut roots, &mut support));
+    show_length(9, 3, &h, &mut roots, &mut support);
 }
 
-// The same for a length of 256.
+// The inverse of an element of the field of width 9.
+fn inverse(a: u32) -> Elem {
+    match field::inverse(9, a) {
+        Answer::Element(inverse) => inverse,
+        Answer::Refused(_) => 0,
+    }
+}
+
+// The signature of 256 entries whose 1/h_i is 256 + i.
+fn signature_256() -> [Elem; 256] {
+    let mut h: [Elem; 256] = [0; 256];
+    for i in 0..256 {
+        h[i] = inverse(256 + i as u32);
+    }
+    h
+}
+
 fn show_length_256() {
-    let h: [Elem; 256] = [1; 256];
+    let h = signature_256();
     let mut roots: [Elem; 256] = [0; 256];
     let mut support: [Elem; 256] = [0; 256];
-    print(b"n 256:");
-    print_outcome(codes::check(code(8, 256, 1, 0), &h, &mut roots, &mut support));
+    show_length(9, 256, &h, &mut roots, &mut support);
+}
+
+// A length above the longest.
+fn show_length_1024() {
+    let h: [Elem; 1024] = [1; 1024];
+    let mut roots: [Elem; 1024] = [0; 1024];
+    let mut support: [Elem; 1024] = [0; 1024];
+    show_length(16, 1024, &h, &mut roots, &mut support);
 }
 
 // Whether card A with t roots is accepted.
@@ -175,10 +208,12 @@ fn main() {
     pairs::show_pairs();
     show_width(1);
     show_width(2);
-    show_width(8);
     show_width(9);
+    show_width(16);
+    show_width(17);
     show_length_3();
     show_length_256();
+    show_length_1024();
     show_root_count(2);
     show_root_count(4);
     show_empty_message();

@@ -9,10 +9,28 @@ ghost use Rattle.field.specs.Gf.{Width};
 
 const NARROWEST: u32 = 2;
 
-const WIDEST: u32 = 8;
+const WIDEST: u32 = 16;
 
 // The reduction word of each width, at the width: bit i is the coefficient of u^i. There is none for widths 0 and 1.
-const WORDS: [u32; WIDEST as usize + 1] = [0, 0, 0x7, 0xB, 0x13, 0x25, 0x43, 0x83, 0x11D];
+const WORDS: [u32; WIDEST as usize + 1] = [
+    0,
+    0,
+    0x7,
+    0xB,
+    0x13,
+    0x25,
+    0x43,
+    0x83,
+    0x11D,
+    0x211,
+    0x409,
+    0x805,
+    0x1053,
+    0x201B,
+    0x4443,
+    0x8003,
+    0x1100B,
+];
 
 // Whether the table has a word for the width.
 pub fn is_width(m: u32) -> bool

@@ -1,4 +1,4 @@
-// The fields GF(2^m) of 01's table, m from 2 to 8. An element is a number below 2^m; bit i is the coefficient of u^i.
+// The fields GF(2^m) of 01's table, m from 2 to 16. An element is a number below 2^m; bit i is the coefficient of u^i.
 //
 // The calls of this file take any input: what is out of range is refused by its number. Calls for code that has checked its numbers already
 // stand in `internal`.
@@ -8,7 +8,7 @@ ghost use mathlib.Core.Path.{_≡_};
 ghost use Rattle.field.specs.Answers.{elementFault, pairFault, sumAnswer, productAnswer, inverseAnswer};
 
 // An element of any of the fields.
-pub type Elem = u8;
+pub type Elem = u16;
 
 pub enum Answer {
     Element(Elem),

@@ -8,12 +8,12 @@ use Rattle.algebra.specs.All.{all}
 use Rattle.algebra.specs.Tabulate.{tabulate}
 use Rattle.algebra.specs.Lists.{entryOf}
 
--- 01: "Every number takes four columns … 0 to 255."
+-- 01: "Sheet numbers, that of a refusal too, take six columns and run to 65535"
 abbrev pub fieldWidth : ℕ
-fieldWidth = 4
+fieldWidth = 6
 
 abbrev pub greatest : ℕ
-greatest = 255
+greatest = 65535
 
 abbrev pub blank : ℕ
 blank = 32

@@ -2,3 +2,4 @@ pub mod Fields
 pub mod Written
 pub mod Over
 pub mod Reading
+pub mod Ends

@@ -9,10 +9,10 @@ ghost use Rattle.fields.specs.Fields.{lineText, lineLength, numbersAt, i
 ghost use Rattle.fields.specs.Written.{written};
 
 // The bytes of a number's field.
-pub const FIELD: usize = 4;
+pub const FIELD: usize = 6;
 
 // The greatest number that a text may hold.
-pub const GREATEST: u32 = 255;
+const GREATEST: u32 = 65535;
 
 // A byte of a field before its last, where the field up to it holds `rest`.
 fn lead_byte(rest: u32) -> u8

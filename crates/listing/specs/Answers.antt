@@ -41,7 +41,7 @@ module _ (text : List ℕ) where
   unfoldable pub listingAfter : List ℕ → List ℕ
   listingAfter out = unless-refused (listingFault out) (λ k. out) (over sheetListing out)
 
-  -- ---- printed: "For a refused card or sheet it prints one line with the number alone, in four columns."
+  -- ---- printed: "For a refused card or sheet it prints one line with the number alone", in as many columns as every number
 
   unfoldable pub printedText : List ℕ
   printedText = unless-refused (sheetFault text) (λ k. lineText (k ∷ [])) sheetListing

@@ -3,7 +3,6 @@
 // The calls of this file take any text: what is no sheet, or the sheet of a code that is refused, is refused by its number.
 use field::Elem;
 use fields::FIELD;
-use fields::GREATEST;
 use lines::CODE_LINE;
 use lines::COLUMN_LINE;
 use refusals::Counted;
@@ -19,7 +18,7 @@ pub fn listing(text: &[u8], out: &mut [u8]) -> Counted
     ensures { λ r. ⌜ r ≡ listingAnswer (now (text .entry)) (now (out .entry)) ⌝ }
     ensures { λ _. ⌜ now (out .exit) ≡ listingAfter (now (text .entry)) (now (out .entry)) ⌝ }
 {
-    let mut h: [Elem; GREATEST as usize] = [0; GREATEST as usize];
+    let mut h: [Elem; LONGEST] = [0; LONGEST];
     let mut inverses: [Elem; LONGEST] = [0; LONGEST];
     let number = sheets::sheet_fault(text, &mut h, &mut inverses);
     if number != 0 {
@@ -33,7 +32,7 @@ pub fn printed(text: &[u8], out: &mut [u8]) -> Counted
     ensures { λ r. ⌜ r ≡ printedAnswer (now (text .entry)) (now (out .entry)) ⌝ }
     ensures { λ _. ⌜ now (out .exit) ≡ printedAfter (now (text .entry)) (now (out .entry)) ⌝ }
 {
-    let mut h: [Elem; GREATEST as usize] = [0; GREATEST as usize];
+    let mut h: [Elem; LONGEST] = [0; LONGEST];
     let mut inverses: [Elem; LONGEST] = [0; LONGEST];
     let number = sheets::sheet_fault(text, &mut h, &mut inverses);
     if number != 0 {

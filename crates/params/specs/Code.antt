@@ -16,7 +16,7 @@ use Rattle.params.specs.declared.Parameters.{Parameters}
 use Rattle.signature.specs.Signature.{Conditions}
 use Rattle.signature.specs.Tests.{signatureRules}
 
--- 2, 01's "length": "n is a power of two from 2 to 128"
+-- 2, 01's "length": "n is a power of two from 2 to" the longest length
 unfoldable pub isLength : ℕ → Bool
 isLength n = leb 2 n && isPower n
 

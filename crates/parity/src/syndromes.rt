@@ -16,7 +16,7 @@ pub fn syndrome_at(m: u32, h: &[Elem], cols: &[Column], word: &[u8], i: usize) -
     let mut sum: Elem = 0;
     for j in 0..cols.len() {
         let at = i ^ cols[j] as usize;
-        sum ^= word[j] * h[at];
+        sum ^= word[j] as Elem * h[at];
     }
     sum
 }

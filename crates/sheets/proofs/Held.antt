@@ -3,7 +3,6 @@ use mathlib.Core.Path.{_≡_, refl, sym, ap, ap₂, _∙_, subst}
 use mathlib.Core.Bool.{true}
 use mathlib.Core.List.{List, _++_}
 use Prim.Native.Nat.{ℕ, _*_, _+_, _≤_}
-use lib.Dec.{lit<}
 use lib.ListN.{length, take, drop}
 use lib.Seq.{take-at, length-take-le}
 use Rattle.algebra.specs.TabulateLaws.{length-tabulate}
@@ -11,15 +10,16 @@ use Rattle.refusals.specs.RuleLaws.{fault-past}
 use Rattle.params.specs.declared.Parameters.{Parameters}
 use Rattle.params.specs.Code.{codeFault, Accepted}
 use Rattle.signature.specs.Inverses.{Inverted}
-use Rattle.fields.specs.Fields.{fieldWidth, greatest, numberAt, numbersAt}
+use Rattle.slices.specs.Lengths.{longest}
+use Rattle.fields.specs.Fields.{fieldWidth, numberAt, numbersAt}
 use Rattle.sheets.specs.Sheet.{second, sheetParameters, sheetN, sheetH, isSheet}
-use Rattle.sheets.specs.Reading.{head-small}
+use Rattle.sheets.specs.Reading.{n-within}
 use Rattle.sheets.specs.Fault.{sheetRules, sheetFault}
 use Rattle.sheets.specs.Held.{SheetRead}
 use Rattle.sheets.specs.Laws.{sheet-accepted}
 
-pub n-small : (text : List ℕ) {n : ℕ} → isSheet text ≡ true → n ≡ sheetN text → n ≤ greatest
-n-small text s e = subst (λ (k : ℕ). k ≤ greatest) (sym e) (head-small text s 1 (lit< tt))
+pub n-small : (text : List ℕ) {n : ℕ} → isSheet text ≡ true → n ≡ sheetN text → n ≤ longest
+n-small text s e = subst (λ (k : ℕ). k ≤ longest) (sym e) (n-within text s)
 
 -- the signature after it was read into the first n entries
 pub signature-read : (text h l : List ℕ) (n : ℕ) → n ≡ sheetN text → n ≤ length h → l ≡ numbersAt text second (length (take n h))

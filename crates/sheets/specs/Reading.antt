@@ -1,18 +1,19 @@
 -- Printing and reading of sheets are inverse to each other.
 use mathlib.Core.Path.{_≡_, refl, sym, ap, ap₂, _∙_, subst}
-use mathlib.Core.Bool.{true, _&&_}
+use mathlib.Core.Bool.{Bool, true, _&&_}
 use mathlib.Core.List.{List, _++_}
 use Prim.Native.Nat.{ℕ, _+_, _-_, _*_, _≤_, _<_}
 use native.Mathlib.Nat.{zero-add}
 use native.Mathlib.Decide.{decLt}
 use native.Mathlib.Omega.{arith}
-use lib.Dec.{eqb, lit<}
+use lib.Dec.{leb, eqb, lit<}
 use lib.ListN.{length, length-append, List·getD-append}
 use lib.Seq.{getD-append-add, ext-getD}
-use borrow.Author.Tests.{eqb-true, eq-eqb}
+use borrow.Author.Tests.{leb-true, le-leb, eqb-true, eq-eqb}
 use Rattle.algebra.specs.Flags.{both-true, both-hold}
 use Rattle.algebra.specs.Tabulate.{tabulate}
 use Rattle.algebra.specs.Lists.{entryOf}
+use Rattle.slices.specs.Lengths.{longest}
 use Rattle.params.specs.declared.Parameters.{Parameters}
 use Rattle.fields.specs.Fields.{fieldWidth, greatest, numberAt, lineText, lineLength, numbersAt, isLine, Small}
 use Rattle.fields.specs.Reading.{length-line, printed-numbers, printed-is-line, printed-line, length-numbers, line-small, line-printed}
@@ -20,18 +21,27 @@ use Rattle.sheets.specs.Sheet.{numbersOf, sheetText, second, sheetParame
 
 -- a text that is a sheet is the sheet of the numbers that are read from it
 module _ (text : List ℕ) (sheet : isSheet text ≡ true) where
-  sheet-parts : (eqb (length text) (second + lineLength (sheetN text)) ≡ true) × ((isLine text 0 4 && isLine text second (sheetN text)) ≡ true)
+  abbrev as-long : Bool
+  as-long = eqb (length text) (second + lineLength (sheetN text))
+
+  abbrev lines : Bool
+  lines = isLine text 0 4 && isLine text second (sheetN text)
+
+  sheet-parts : (leb (sheetN text) longest ≡ true) × ((as-long && lines) ≡ true)
   unfolding isSheet
-  sheet-parts = both-true (eqb (length text) (second + lineLength (sheetN text))) (isLine text 0 4 && isLine text second (sheetN text)) sheet
+  sheet-parts = both-true (leb (sheetN text) longest) (as-long && lines) sheet
+
+  pub n-within : sheetN text ≤ longest
+  n-within = leb-true (sheetN text) longest (sheet-parts .0)
 
   pub sheet-long : length text ≡ second + lineLength (sheetN text)
-  sheet-long = eqb-true (length text) (second + lineLength (sheetN text)) (sheet-parts .0)
+  sheet-long = eqb-true (length text) (second + lineLength (sheetN text)) (both-true as-long lines (sheet-parts .1) .0)
 
   pub sheet-first : isLine text 0 4 ≡ true
-  sheet-first = both-true (isLine text 0 4) (isLine text second (sheetN text)) (sheet-parts .1) .0
+  sheet-first = both-true (isLine text 0 4) (isLine text second (sheetN text)) (both-true as-long lines (sheet-parts .1) .1) .0
 
   pub sheet-second : isLine text second (sheetN text) ≡ true
-  sheet-second = both-true (isLine text 0 4) (isLine text second (sheetN text)) (sheet-parts .1) .1
+  sheet-second = both-true (isLine text 0 4) (isLine text second (sheetN text)) (both-true as-long lines (sheet-parts .1) .1) .1
 
   -- the numbers of line one are in range
   pub head-small : (i : ℕ) → i < 4 → numberAt text (i * fieldWidth) ≤ greatest
@@ -77,7 +87,7 @@ module _ (text : List ℕ) (sheet : isSheet text ≡ true) where
 
   -- so a longer text is no sheet, whatever it holds
   pub sheet-short : length text ≤ longestSheet
-  sheet-short = omega (arith, sheet-long, head-small 1 (lit< tt))
+  sheet-short = omega (arith, sheet-long, n-within)
 
 -- a code's numbers are given by each of them
 pub parameters-are : {c d : Parameters} → c .m ≡ d .m → c .n ≡ d .n → c .t ≡ d .t → c .omega ≡ d .omega → c ≡ d
@@ -93,7 +103,7 @@ pub record Reads (c : Parameters) (h text : List ℕ) : Type 0 where
   pub signature : sheetH text ≡ h
 
 -- a code's sheet is a sheet, and the code's numbers are read from it
-module _ (c : Parameters) (h : List ℕ) (lc : Small (numbersOf c)) (lh : Small h) (long : length h ≡ c .n) where
+module _ (c : Parameters) (h : List ℕ) (lc : Small (numbersOf c)) (lh : Small h) (short : c .n ≤ longest) (long : length h ≡ c .n) where
   abbrev head : List ℕ
   head = numbersOf c
 
@@ -130,9 +140,10 @@ module _ (c : Parameters) (h : List ℕ) (lc : Small (numbersOf c)) (lh : Small 
   unfolding sheetText isSheet
   sheet-read =
       record {
-        sheet = both-hold (eq-eqb (length whole) (second + lineLength (sheetN whole)) length-whole)
+        sheet = both-hold (le-leb (sheetN whole) longest (subst (λ (k : ℕ). k ≤ longest) (sym n-read) short))
+            (both-hold (eq-eqb (length whole) (second + lineLength (sheetN whole)) length-whole)
             (both-hold (printed-is-line whole 0 head lc first)
-            (ap (isLine whole second) (n-read ∙ sym long) ∙ printed-is-line whole second h lh rest));
+            (ap (isLine whole second) (n-read ∙ sym long) ∙ printed-is-line whole second h lh rest)));
         numbers = parameters-are m-read n-read t-read ω-read;
         signature = ap (numbersAt whole second) (n-read ∙ sym long) ∙ printed-line whole second h lh rest;
       }

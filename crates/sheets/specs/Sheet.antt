@@ -2,10 +2,11 @@
 use mathlib.Core.Bool.{Bool, _&&_}
 use mathlib.Core.List.{List, [], _∷_, _++_}
 use Prim.Native.Nat.{ℕ, _+_, _*_}
-use lib.Dec.{eqb}
+use lib.Dec.{leb, eqb}
 use lib.ListN.{length}
 use Rattle.params.specs.declared.Parameters.{Parameters}
-use Rattle.fields.specs.Fields.{fieldWidth, greatest, numberAt, lineText, lineLength, numbersAt, isLine}
+use Rattle.slices.specs.Lengths.{longest}
+use Rattle.fields.specs.Fields.{fieldWidth, numberAt, lineText, lineLength, numbersAt, isLine}
 
 -- the numbers of line one
 abbrev pub numbersOf : Parameters → List ℕ
@@ -36,10 +37,11 @@ module _ (text : List ℕ) where
   abbrev pub sheetH : List ℕ
   sheetH = numbersAt text second sheetN
 
-  -- "exactly two lines, each ended by byte 10, and nothing after them … a line two with more or fewer is no sheet"
+  -- "exactly two lines, each ended by byte 10, and nothing after them … a line two with more or fewer is no sheet"; neither is a text whose n is
+  -- above the longest length
   unfoldable pub isSheet : Bool
-  isSheet = eqb (length text) (second + lineLength sheetN) && (isLine text 0 4 && isLine text second sheetN)
+  isSheet = leb sheetN longest && (eqb (length text) (second + lineLength sheetN) && (isLine text 0 4 && isLine text second sheetN))
 
 -- the length of the longest sheet
 abbrev pub longestSheet : ℕ
-longestSheet = second + lineLength greatest
+longestSheet = second + lineLength longest

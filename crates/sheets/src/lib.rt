@@ -1,15 +1,14 @@
 // A sheet read: whether a text is one, and the code on it.
 use field::Elem;
 use fields::FIELD;
-use fields::GREATEST;
 use params::Parameters;
 use params::code_fault_inverses;
+use slices::LONGEST;
 ghost use mathlib.Core.Path.{_≡_};
 ghost use mathlib.Core.Bool.{true};
 ghost use Prim.Native.Nat.{_≤_};
 ghost use lib.ListN.{length, take};
 ghost use Rattle.slices.specs.Lengths.{longest};
-ghost use Rattle.fields.specs.Fields.{greatest};
 ghost use Rattle.sheets.specs.Sheet.{second, sheetParameters, sheetN, sheetH, isSheet};
 ghost use Rattle.sheets.specs.Fault.{sheetFault};
 ghost use Rattle.sheets.specs.Held.{SheetRead};
@@ -18,7 +17,7 @@ ghost use Rattle.sheets.specs.Held.{SheetRead};
 const SECOND: usize = 4 * FIELD + 1;
 
 // The length of the longest sheet.
-pub const LONGEST_SHEET: usize = SECOND + GREATEST as usize * FIELD + 1;
+pub const LONGEST_SHEET: usize = SECOND + LONGEST * FIELD + 1;
 
 fn is_sheet(text: &[u8]) -> bool
     ensures { λ r. ⌜ r ≡ isSheet (now (text .entry)) ⌝ }
@@ -30,6 +29,9 @@ fn is_sheet(text: &[u8]) -> bool
         return false;
     }
     let n = fields::value_at(text, FIELD) as usize;
+    if LONGEST < n {
+        return false;
+    }
     if text.len() != SECOND + n * FIELD + 1 {
         return false;
     }
@@ -51,7 +53,7 @@ pub fn parameters_of(text: &[u8]) -> Parameters
 
 // The entries of the signature on a sheet, as the first n of `h`.
 fn read_signature(text: &[u8], h: &mut [Elem])
-    requires { ⌜ (isSheet (now text) ≡ true) × (greatest ≤ length (now h)) ⌝ }
+    requires { ⌜ (isSheet (now text) ≡ true) × (longest ≤ length (now h)) ⌝ }
     ensures { λ _. ⌜ take (sheetN (now (text .entry))) (now (h .exit)) ≡ sheetH (now (text .entry)) ⌝ }
 {
     let n = fields::value_at(text, FIELD) as usize;
@@ -60,7 +62,7 @@ fn read_signature(text: &[u8], h: &mut [Elem])
 
 // The number that refuses a text, or 0. Then `h` begins with the entries of the signature, and `inverses` with their inverses.
 pub fn sheet_fault(text: &[u8], h: &mut [Elem], inverses: &mut [Elem]) -> u32
-    requires { ⌜ (greatest ≤ length (now h)) × (longest ≤ length (now inverses)) ⌝ }
+    requires { ⌜ (longest ≤ length (now h)) × (longest ≤ length (now inverses)) ⌝ }
     ensures { λ r. ⌜ r ≡ sheetFault (now (text .entry)) ⌝ }
     ensures { λ r. ⌜ (r ≡ 0 → SheetRead (now (text .entry)) (now (h .exit)) (now (inverses .exit))) ⌝ }
 {

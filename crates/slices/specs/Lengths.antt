@@ -6,7 +6,7 @@ use Rattle.algebra.specs.All.{some}
 
 -- the longest length is 2 ^ longestLog
 abbrev pub longestLog : ℕ
-longestLog = 7
+longestLog = 9
 
 abbrev pub longest : ℕ
 longest = 2 ^ longestLog

@@ -9,7 +9,7 @@ ghost use Rattle.slices.specs.Elements.{allElements};
 ghost use Rattle.slices.specs.Bits.{allBits};
 
 // The longest block and the longest word.
-pub const LONGEST: usize = 128;
+pub const LONGEST: usize = 512;
 
 // Whether s is a power of two from 1 to LONGEST.
 pub fn is_power(s: usize) -> bool

@@ -4,7 +4,7 @@
 use std::fs;
 use std::process::exit;
 use zovunelith::sheet::{self, LONGEST_LISTING};
-use zovunelith::{Code, Counts, Lamp, Row};
+use zovunelith::{Code, Counts, Elem, Lamp, Row};
 
 /// The text of the sheet in a file.
 pub fn sheet(path: &str) -> Vec<u8> {
@@ -19,7 +19,7 @@ pub struct Card {
     /// m, n, t, the offset, rank and k; then column, h, support and role of each column.
     pub listing: String,
     /// The signature.
-    h: Vec<u8>,
+    h: Vec<Elem>,
 }
 
 impl Card {
@@ -31,7 +31,7 @@ impl Card {
             exit(1);
         });
         let listing = String::from_utf8_lossy(&listing[..length]).into_owned();
-        let h = numbers(&listing)[6..].chunks(4).map(|column| column[1] as u8).collect();
+        let h = numbers(&listing)[6..].chunks(4).map(|column| column[1] as Elem).collect();
         Card { listing, h }
     }
 

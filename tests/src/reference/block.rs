@@ -1,10 +1,11 @@
-//! Dyadic blocks, by way of their full matrices: sums and products entry by entry, inverses by Gaussian elimination.
+//! Dyadic blocks, by way of their matrices, of which the first row is the signature: that of a sum and of a product
+//! entry by entry, that of an inverse by Gaussian elimination.
 
 use super::field;
 use crate::Elem;
 
 /// The lengths that a block may have.
-pub const LENGTHS: [usize; 8] = [1, 2, 4, 8, 16, 32, 64, 128];
+pub const LENGTHS: [usize; 10] = [1, 2, 4, 8, 16, 32, 64, 128, 256, 512];
 
 type Matrix = Vec<Vec<Elem>>;
 
@@ -14,54 +15,47 @@ pub fn matrix(signature: &[Elem]) -> Matrix {
     (0..s).map(|i| (0..s).map(|j| signature[i ^ j]).collect()).collect()
 }
 
-/// The signature of a dyadic matrix, its first row. Every other entry has to follow from it.
-fn signature(dyadic: Matrix) -> Vec<Elem> {
-    let first = dyadic[0].clone();
-    assert!(dyadic == matrix(&first), "the matrix isn't dyadic");
-    first
+/// Adds `factor` times a row to another row.
+fn add_multiple(m: u32, row: &mut [Elem], factor: Elem, other: &[Elem]) {
+    let multiple = field::multiplier(m, factor);
+    for (entry, &added) in row.iter_mut().zip(other) {
+        *entry ^= multiple(added);
+    }
 }
 
-pub fn matrix_sum(a: &Matrix, b: &Matrix) -> Matrix {
-    let rows = a.iter().zip(b);
-    rows.map(|(left, right)| left.iter().zip(right).map(|(x, y)| x ^ y).collect()).collect()
-}
-
-pub fn matrix_product(m: u32, a: &Matrix, b: &Matrix) -> Matrix {
-    let s = a.len();
-    let mut product = vec![vec![0; s]; s];
-    for i in 0..s {
-        for l in 0..s {
-            add_multiple(m, &mut product[i], a[i][l], &b[l]);
-        }
+/// A row times a matrix.
+fn row_product(m: u32, row: &[Elem], matrix: &Matrix) -> Vec<Elem> {
+    let mut product = vec![0; row.len()];
+    for (&factor, other) in row.iter().zip(matrix) {
+        add_multiple(m, &mut product, factor, other);
     }
     product
 }
 
-/// Adds `factor` times a row to another row.
-fn add_multiple(m: u32, row: &mut [Elem], factor: Elem, other: &[Elem]) {
-    let multiples = field::multiples(m, factor);
-    for (entry, &added) in row.iter_mut().zip(other) {
-        *entry ^= multiples[usize::from(added)];
-    }
-}
-
-/// The inverse by Gaussian elimination, carrying the identity along on the right; none for a singular matrix.
-pub fn matrix_inverse(m: u32, a: &Matrix) -> Option<Matrix> {
-    let s = a.len();
-    let unit = |i: usize| (0..s).map(move |j| Elem::from(i == j));
-    let mut rows: Matrix = (0..s).map(|i| a[i].iter().copied().chain(unit(i)).collect()).collect();
+/// The first row of the inverse of a block's matrix, the row whose product with the matrix is 1, 0, 0, ...; none if
+/// the matrix is singular. The matrix is its own transpose, so that its rows are the equations for that row.
+fn first_row_of_inverse(m: u32, mut rows: Matrix) -> Option<Vec<Elem>> {
+    let s = rows.len();
+    // Each equation is its coefficients and then what they make up.
+    rows.iter_mut().enumerate().for_each(|(i, row)| row.push(Elem::from(i == 0)));
     for column in 0..s {
         let pivot = (column..s).find(|&row| rows[row][column] != 0)?;
         rows.swap(column, pivot);
-        let scale = field::multiples(m, field::reciprocal(m, rows[column][column]));
-        let scaled: Vec<Elem> = rows[column].iter().map(|&entry| scale[usize::from(entry)]).collect();
-        for row in (0..s).filter(|&row| row != column) {
-            let factor = rows[row][column];
-            add_multiple(m, &mut rows[row], factor, &scaled);
+        let scale = field::multiplier(m, field::reciprocal(m, rows[column][column]));
+        rows[column].iter_mut().for_each(|entry| *entry = scale(*entry));
+        let (done, below) = rows.split_at_mut(column + 1);
+        for row in below {
+            let factor = row[column];
+            add_multiple(m, &mut row[column..], factor, &done[column][column..]);
         }
-        rows[column] = scaled;
     }
-    Some(rows.into_iter().map(|row| row[s..].to_vec()).collect())
+    // An equation now has its own unknown and those behind it.
+    let mut solution = vec![0; s];
+    for i in (0..s).rev() {
+        let behind = (i + 1..s).map(|j| field::times(m, rows[i][j], solution[j]));
+        solution[i] = behind.fold(rows[i][s], |sum, term| sum ^ term);
+    }
+    Some(solution)
 }
 
 /// 1 for the width; 2 for a length that no block has, blocks of unequal lengths or a result of another length; 3.
@@ -80,22 +74,23 @@ pub fn judge(m: u32, blocks: &[&[Elem]], result_length: usize) -> Result<(), u32
 
 pub fn sum(m: u32, a: &[Elem], b: &[Elem], result_length: usize) -> Result<Vec<Elem>, u32> {
     judge(m, &[a, b], result_length)?;
-    Ok(signature(matrix_sum(&matrix(a), &matrix(b))))
+    Ok(a.iter().zip(b).map(|(x, y)| x ^ y).collect())
 }
 
 pub fn product(m: u32, a: &[Elem], b: &[Elem], result_length: usize) -> Result<Vec<Elem>, u32> {
     judge(m, &[a, b], result_length)?;
-    Ok(signature(matrix_product(m, &matrix(a), &matrix(b))))
+    Ok(row_product(m, a, &matrix(b)))
 }
 
 pub fn inverse(m: u32, a: &[Elem], result_length: usize) -> Result<Vec<Elem>, u32> {
     judge(m, &[a], result_length)?;
-    matrix_inverse(m, &matrix(a)).map(signature).ok_or(9)
+    first_row_of_inverse(m, matrix(a)).ok_or(9)
 }
 
 #[cfg(test)]
 mod tests {
     use super::*;
+    use crate::draw;
     use crate::random::Random;
 
     #[test]
@@ -114,6 +109,46 @@ mod tests {
         assert_eq!(full, [[10, 11, 12, 13], [11, 10, 13, 12], [12, 13, 10, 11], [13, 12, 11, 10]]);
     }
 
+    /// The widths to try at a length: the longest matrices take their time.
+    fn widths(s: usize) -> Vec<u32> {
+        field::WORDS.iter().map(|entry| entry.0).filter(|&m| s <= 128 || m == 16).collect()
+    }
+
+    /// The full matrices: that of a product is the product of both, row by row, and that of a sum their sum.
+    #[test]
+    fn sums_and_products_of_full_matrices() {
+        let mut random = Random::new(9);
+        for s in LENGTHS {
+            for m in widths(s) {
+                let (a, b) = (draw::block(&mut random, m, s), draw::block(&mut random, m, s));
+                let (full_a, full_b) = (matrix(&a), matrix(&b));
+                let of_product = matrix(&product(m, &a, &b, s).expect("blocks"));
+                let of_sum = matrix(&sum(m, &a, &b, s).expect("blocks"));
+                for i in 0..s {
+                    assert_eq!(row_product(m, &full_a[i], &full_b), of_product[i], "width {m}, row {i} of {s}");
+                    let rows = full_a[i].iter().zip(&full_b[i]);
+                    assert!(rows.map(|(x, y)| x ^ y).eq(of_sum[i].iter().copied()), "width {m}, row {i} of {s}");
+                }
+            }
+        }
+    }
+
+    /// The full matrix of an inverse: its product with the block's matrix has ones in the diagonal and else zeros.
+    #[test]
+    fn a_block_times_its_inverse_is_the_unit() {
+        let mut random = Random::new(12);
+        for s in LENGTHS {
+            for m in widths(s) {
+                let a = draw::live_block(&mut random, m, s);
+                let (full, inverted) = (matrix(&a), matrix(&inverse(m, &a, s).expect("the sum isn't zero")));
+                for i in 0..s {
+                    let unit: Vec<Elem> = (0..s).map(|j| Elem::from(i == j)).collect();
+                    assert_eq!(row_product(m, &inverted[i], &full), unit, "width {m}, row {i} of {s}");
+                }
+            }
+        }
+    }
+
     /// The inverse exists exactly if the sum of all elements is nonzero; it is the signature over that sum's square.
     #[test]
     fn inverses_follow_the_sum_of_the_elements() {
@@ -121,7 +156,7 @@ mod tests {
         for (m, _) in field::WORDS {
             for s in [1, 2, 4, 8, 16] {
                 for _ in 0..50 {
-                    let a: Vec<Elem> = (0..s).map(|_| random.below(field::size(m) as usize) as Elem).collect();
+                    let a = draw::block(&mut random, m, s);
                     let total = a.iter().fold(0, |sum, entry| sum ^ entry);
                     let expected = if total == 0 {
                         Err(9)
@@ -131,20 +166,8 @@ mod tests {
                     };
                     assert_eq!(inverse(m, &a, s), expected, "width {m}, block {a:?}");
                 }
+                assert_eq!(inverse(m, &draw::dead_block(&mut random, m, s), s), Err(9), "width {m}");
             }
-        }
-    }
-
-    #[test]
-    fn a_block_times_its_inverse_is_the_unit() {
-        let mut random = Random::new(12);
-        for (m, _) in field::WORDS {
-            let mut a: Vec<Elem> = (0..8).map(|_| random.below(field::size(m) as usize) as Elem).collect();
-            if a.iter().fold(0, |sum, entry| sum ^ entry) == 0 {
-                a[5] ^= 1;
-            }
-            let inverted = inverse(m, &a, 8).expect("the sum isn't zero");
-            assert_eq!(product(m, &a, &inverted, 8), Ok(vec![1, 0, 0, 0, 0, 0, 0, 0]));
         }
     }
 }

@@ -172,6 +172,6 @@ mod tests {
         assert_eq!(formula(3, b"+", [&[1, 8], &[1], &[], &[]], 2), Err(2));
         assert_eq!(formula(3, b"+", [&[]; 4], 3), Err(2));
         assert_eq!(formula(3, b"A", [&[]; 4], 2), Err(16));
-        assert_eq!(formula(9, b"+", [&[1, 8], &[1], &[], &[]], 3), Err(1));
+        assert_eq!(formula(17, b"+", [&[1, 8], &[1], &[], &[]], 3), Err(1));
     }
 }

@@ -4,10 +4,10 @@ use super::field;
 use crate::Elem;
 
 /// The lengths n of a code.
-pub const LENGTHS: [u32; 7] = [2, 4, 8, 16, 32, 64, 128];
+pub const LENGTHS: [u32; 9] = [2, 4, 8, 16, 32, 64, 128, 256, 512];
 
 /// The numbers t of rows of a parity matrix; t goes with n if it is at most n/2.
-pub const ROWS: [u32; 7] = [1, 2, 4, 8, 16, 32, 64];
+pub const ROWS: [u32; 9] = [1, 2, 4, 8, 16, 32, 64, 128, 256];
 
 /// The parameters of a code, accepted or not.
 #[derive(Clone, Debug, PartialEq)]
@@ -17,6 +17,15 @@ pub struct Params {
     pub t: u32,
     pub omega: u32,
     pub h: Vec<Elem>,
+}
+
+/// m, n and t of a code.
+pub type Shape = (u32, u32, u32);
+
+impl Params {
+    pub fn shape(&self) -> Shape {
+        (self.m, self.n, self.t)
+    }
 }
 
 /// Code A of the bench cases, the sheet that stands with them.
@@ -59,12 +68,12 @@ fn judge_signature(m: u32, h: &[Elem]) -> Result<(), u32> {
     if h.contains(&0) {
         return Err(4);
     }
-    let over = |i: usize| field::reciprocal(m, h[i]);
+    let over: Vec<Elem> = h.iter().map(|&entry| field::reciprocal(m, entry)).collect();
     let n = h.len();
-    if (0..n).any(|i| (0..n).any(|j| over(i ^ j) != over(i) ^ over(j) ^ over(0))) {
+    if (0..n).any(|i| (0..n).any(|j| over[i ^ j] != over[i] ^ over[j] ^ over[0])) {
         return Err(5);
     }
-    if (0..n).any(|i| (0..i).any(|j| h[i] == h[j])) {
+    if (0..n).any(|i| h[..i].contains(&h[i])) {
         return Err(6);
     }
     Ok(())
@@ -142,11 +151,19 @@ mod tests {
     #[test]
     fn limits() {
         assert_eq!(judge(&Params { m: 1, ..code_a() }, &[]), Err(1));
-        assert_eq!(judge(&Params { m: 9, ..code_a() }, &[]), Err(1));
+        assert_eq!(judge(&Params { m: 17, ..code_a() }, &[]), Err(1));
         assert_eq!(judge(&params(2, 1, 3, &[1, 2]), &[]), Ok(()));
-        assert_eq!(judge(&params(8, 1, 255, &[1, 2]), &[]), Ok(()));
+        assert_eq!(judge(&params(16, 1, 65535, &[1, 2]), &[]), Ok(()));
+        assert_eq!(judge(&params(16, 1, 65536, &[1, 2]), &[]), Err(3));
         assert_eq!(judge(&params(5, 1, 0, &[1, 2, 3]), &[]), Err(2));
-        assert_eq!(judge(&params(8, 1, 0, &[1; 256]), &[]), Err(2));
+        assert_eq!(judge(&params(16, 1, 0, &[1; 512]), &[]), Err(6));
+        assert_eq!(judge(&params(16, 1, 0, &[1; 1024]), &[]), Err(2));
+        let mut random = Random::new(8);
+        for (m, n) in [(9, 256), (10, 512), (16, 512)] {
+            let h = draw::signature(&mut random, m, n);
+            assert_eq!(judge(&params(m, n / 2, 0, &h), &[]), Ok(()));
+            assert_eq!(judge(&params(m, n, 0, &h), &[]), Err(7));
+        }
         for t in 0..40 {
             let expected = if [1, 2, 4, 8].contains(&t) { Ok(()) } else { Err(7) };
             assert_eq!(judge(&Params { t, ..code_t() }, &[]), expected, "t {t}");

@@ -1,8 +1,8 @@
 //! Repair: the code word within t places of the word received, if there is one.
 //!
 //! Three methods, each by itself evident. Where a code has few words, all are compared with the word received. For
-//! small t, all choices of at most t places are looked through, in two halves, for one with the syndrome of the word
-//! received. Elsewhere the locator's equations are solved, and what they give is checked.
+//! small t, unless the words are long, all choices of at most t places are looked through, in two halves, for one with
+//! the syndrome of the word received. Elsewhere the locator's equations are solved, and what they give is checked.
 
 use super::columns::Setting;
 use super::field;
@@ -40,7 +40,7 @@ impl Decoder {
             Method::List(code_words_among_all_words(&code))
         } else if code.k() <= 10 {
             Method::List(code_words_of_all_messages(&code))
-        } else if code.params.t <= 4 {
+        } else if code.params.t <= 2 || code.params.t <= 4 && code.length() <= 128 {
             Method::Halves(Halves::new(&code))
         } else {
             Method::Locator
@@ -156,7 +156,7 @@ pub fn repair_by_locator(code: &Code, received: &[u8]) -> Repaired {
     }
     // For each l: the lower coefficients times S_l, S_(l+1), ... make up S_(l+w).
     let locator = (0..=t).find_map(|w| {
-        let equations = (0..2 * t - w).map(|l| sums[l..=l + w].to_vec()).collect();
+        let equations = (0..2 * t - w).map(|l| sums[l..=l + w].to_vec());
         solve(m, w, equations)
     })?;
     let mut repaired = received.to_vec();
@@ -170,32 +170,29 @@ pub fn repair_by_locator(code: &Code, received: &[u8]) -> Repaired {
 
 /// One solution of linear equations in `unknowns` unknowns, if there is any. An equation is its coefficients and then
 /// what they make up.
-fn solve(m: u32, unknowns: usize, mut equations: Vec<Vec<Elem>>) -> Option<Vec<Elem>> {
-    let mut solved: Vec<usize> = Vec::new();
-    for unknown in 0..unknowns {
-        let done = solved.len();
-        let Some(pivot) = (done..equations.len()).find(|&row| equations[row][unknown] != 0) else {
-            continue;
-        };
-        equations.swap(done, pivot);
-        let scale = field::multiples(m, field::reciprocal(m, equations[done][unknown]));
-        equations[done].iter_mut().for_each(|entry| *entry = scale[usize::from(*entry)]);
-        let scaled = equations[done].clone();
-        for row in (0..equations.len()).filter(|&row| row != done) {
-            let multiples = field::multiples(m, equations[row][unknown]);
-            for (entry, &other) in equations[row].iter_mut().zip(&scaled) {
-                *entry ^= multiples[usize::from(other)];
-            }
+fn solve(m: u32, unknowns: usize, equations: impl Iterator<Item = Vec<Elem>>) -> Option<Vec<Elem>> {
+    // Each with an unknown of its own, whose coefficient is 1 in it and 0 in those behind it.
+    let mut solved: Vec<(usize, Vec<Elem>)> = Vec::new();
+    for mut equation in equations {
+        for (unknown, other) in &solved {
+            let multiple = field::multiplier(m, equation[*unknown]);
+            equation.iter_mut().zip(other).for_each(|(entry, &other)| *entry ^= multiple(other));
         }
-        solved.push(unknown);
+        match equation[..unknowns].iter().position(|&coefficient| coefficient != 0) {
+            Some(unknown) => {
+                let scale = field::multiplier(m, field::reciprocal(m, equation[unknown]));
+                equation.iter_mut().for_each(|entry| *entry = scale(*entry));
+                solved.push((unknown, equation));
+            }
+            None if equation[unknowns] != 0 => return None,
+            None => {}
+        }
     }
-    // What is left has no unknowns.
-    if equations[solved.len()..].iter().any(|equation| equation[unknowns] != 0) {
-        return None;
-    }
+    // From the last equation up; an unknown without an equation of its own is zero.
     let mut solution = vec![0; unknowns];
-    for (equation, unknown) in equations.iter().zip(solved) {
-        solution[unknown] = equation[unknowns];
+    for (unknown, equation) in solved.iter().rev() {
+        let terms = equation.iter().zip(&solution).map(|(&coefficient, &value)| field::times(m, coefficient, value));
+        solution[*unknown] = terms.fold(equation[unknowns], |sum, term| sum ^ term);
     }
     Some(solution)
 }
@@ -237,16 +234,22 @@ mod tests {
     fn the_methods_agree() {
         let mut random = Random::new(19);
         let mut too_far = 0;
-        for code in draw::codes(&mut random, 128) {
-            let t = code.params.t;
-            let all_words = (code.length() <= 8).then(|| code_words_among_all_words(&code));
+        for code in draw::codes(&mut random, draw::fewer_shapes(), 512) {
+            let (length, t) = (code.length(), code.params.t as usize);
+            let all_words = (length <= 8).then(|| code_words_among_all_words(&code));
             let all_messages = (code.k() <= 12).then(|| code_words_of_all_messages(&code));
             let halves = (t <= 4).then(|| Halves::new(&code));
-            for weight in 0..=code.length() {
+            // The more rows, the longer the equations take.
+            let weights = match (code.params.m, length, t) {
+                (0..=8, ..) | (_, 0..=128, 0..=32) => (0..=length).collect(),
+                (_, _, 0..=64) => vec![0, 1, t - 1, t, t + 1, t + 2, length / 2],
+                _ => vec![],
+            };
+            for weight in weights.into_iter().filter(|&weight| weight <= length) {
                 let sent = code.encode(&random.bits(code.k()));
-                let received = turned(&sent, &random.places(code.length(), weight));
+                let received = turned(&sent, &random.places(length, weight));
                 let answer = repair_by_locator(&code, &received);
-                if weight <= t as usize {
+                if weight <= t {
                     assert_eq!(answer, Some((sent, weight as u32)), "{:?}", code.params);
                 }
                 for list in all_words.iter().chain(&all_messages) {
@@ -266,7 +269,7 @@ mod tests {
     fn the_methods_agree_on_all_words() {
         let mut random = Random::new(20);
         for _ in 0..10 {
-            for code in draw::codes(&mut random, 8) {
+            for code in draw::codes(&mut random, draw::shapes(), 8) {
                 let list = code_words_among_all_words(&code);
                 for number in 0..1_usize << code.length() {
                     let received = bits(number, code.length());
@@ -281,7 +284,7 @@ mod tests {
     #[test]
     fn code_words_lie_far_apart() {
         let mut random = Random::new(21);
-        for code in draw::codes(&mut random, 128).into_iter().filter(|code| code.k() <= 12) {
+        for code in draw::codes(&mut random, draw::fewer_shapes(), 512).into_iter().filter(|code| code.k() <= 12) {
             // Sums of code words are code words: what a word weighs is a distance.
             for word in code_words_of_all_messages(&code) {
                 let weight = word.iter().filter(|&&bit| bit == 1).count();
@@ -292,11 +295,14 @@ mod tests {
 
     #[test]
     fn linear_equations() {
-        // Width 3: 2x = 6 and x + y = 1.
-        assert_eq!(solve(3, 2, vec![vec![2, 0, 6], vec![1, 1, 1]]), Some(vec![3, 2]));
-        assert_eq!(solve(3, 2, vec![vec![1, 1, 1], vec![2, 2, 1]]), None);
-        assert_eq!(solve(3, 1, vec![vec![0, 0], vec![3, 3]]), Some(vec![1]));
-        assert_eq!(solve(3, 0, vec![vec![0], vec![0]]), Some(vec![]));
-        assert_eq!(solve(3, 0, vec![vec![0], vec![5]]), None);
+        let solve = |unknowns: usize, equations: Vec<Vec<Elem>>| solve(3, unknowns, equations.into_iter());
+        // 2x = 6 and x + y = 1.
+        assert_eq!(solve(2, vec![vec![2, 0, 6], vec![1, 1, 1]]), Some(vec![3, 2]));
+        assert_eq!(solve(2, vec![vec![1, 1, 1], vec![2, 0, 6]]), Some(vec![3, 2]));
+        assert_eq!(solve(2, vec![vec![1, 1, 1], vec![2, 2, 1]]), None);
+        assert_eq!(solve(2, vec![vec![0, 3, 3], vec![0, 1, 1]]), Some(vec![0, 1]));
+        assert_eq!(solve(1, vec![vec![0, 0], vec![3, 3]]), Some(vec![1]));
+        assert_eq!(solve(0, vec![vec![0], vec![0]]), Some(vec![]));
+        assert_eq!(solve(0, vec![vec![0], vec![5]]), None);
     }
 }

@@ -21,7 +21,7 @@ pub struct Code {
     pub roles: Vec<u8>,
     /// The parity matrix over the bits, reduced: for each check column in rising order the row whose first 1 stands
     /// there. No other row has a 1 in that column.
-    reduced: Vec<Vec<u8>>,
+    reduced: Vec<BitRow>,
 }
 
 impl Code {
@@ -37,8 +37,9 @@ impl Code {
         let support: Vec<Elem> = columns.into_iter().map(|j| full[j]).collect();
         let row = |z: &Elem| support.iter().map(|l| field::reciprocal(params.m, z ^ l)).collect();
         let parity: Vec<Vec<Elem>> = roots[..params.t as usize].iter().map(row).collect();
-        let (check_columns, reduced) = reduce(bit_rows(params.m, &parity));
-        let roles = (0..support.len()).map(|place| u8::from(!check_columns.contains(&place))).collect();
+        let (check_columns, reduced) = reduce(bit_rows(params.m, &parity), support.len());
+        let mut roles = vec![1; support.len()];
+        check_columns.into_iter().for_each(|column| roles[column] = 0);
         Code { params: params.clone(), support, parity, roles, reduced }
     }
 
@@ -74,9 +75,9 @@ impl Code {
         for (column, &bit) in self.columns(1).into_iter().zip(message) {
             word[column] = bit;
         }
+        let carried = BitRow::new(word.iter().map(|&bit| bit == 1));
         for (column, row) in self.columns(0).into_iter().zip(&self.reduced) {
-            word[column] =
-                (0..self.length()).filter(|&j| self.roles[j] == 1).fold(0, |sum, j| sum ^ (row[j] & word[j]));
+            word[column] = row.sum_within(&carried);
         }
         word
     }
@@ -87,31 +88,81 @@ impl Code {
     }
 }
 
-/// The parity matrix over the bits: bit 0 of all rows, then bit 1 of all, and so on.
-pub fn bit_rows(m: u32, parity: &[Vec<Elem>]) -> Vec<Vec<u8>> {
-    let bit_of_row = |bit: u32, row: &Vec<Elem>| row.iter().map(|entry| u8::from(entry >> bit & 1 == 1)).collect();
-    (0..m).flat_map(|bit| parity.iter().map(move |row| bit_of_row(bit, row))).collect()
+/// A bit for each of at most 512 places: that of place j is bit j mod 64 of number j / 64.
+#[derive(Clone, Copy, Debug, Default, PartialEq)]
+struct BitRow([u64; 8]);
+
+impl BitRow {
+    fn new(bits: impl IntoIterator<Item = bool>) -> BitRow {
+        let mut row = BitRow::default();
+        for (place, bit) in bits.into_iter().enumerate() {
+            row.0[place / 64] |= u64::from(bit) << (place % 64);
+        }
+        row
+    }
+
+    fn has(&self, place: usize) -> bool {
+        self.0[place / 64] >> (place % 64) & 1 == 1
+    }
+
+    fn first_one(&self) -> Option<usize> {
+        let number = self.0.iter().position(|&number| number != 0)?;
+        Some(64 * number + self.0[number].trailing_zeros() as usize)
+    }
+
+    fn add(&mut self, other: &BitRow) {
+        self.0.iter_mut().zip(other.0).for_each(|(number, other)| *number ^= other);
+    }
+
+    /// The sum of the bits at the places where another row has ones.
+    fn sum_within(&self, other: &BitRow) -> u8 {
+        let ones = self.0.iter().zip(other.0).map(|(number, other)| (number & other).count_ones());
+        (ones.sum::<u32>() % 2) as u8
+    }
 }
 
-/// Row reduction from the left. Gives the columns in which a row has its first 1, and those rows.
-fn reduce(mut rows: Vec<Vec<u8>>) -> (Vec<usize>, Vec<Vec<u8>>) {
-    let mut first_ones = Vec::new();
-    for column in 0..rows[0].len() {
-        let done = first_ones.len();
-        let Some(pivot) = (done..rows.len()).find(|&row| rows[row][column] == 1) else {
-            continue;
-        };
-        rows.swap(done, pivot);
-        let subtracted = rows[done].clone();
-        for row in (0..rows.len()).filter(|&row| row != done) {
-            if rows[row][column] == 1 {
-                rows[row].iter_mut().zip(&subtracted).for_each(|(bit, other)| *bit ^= other);
+/// The parity matrix over the bits: bit 0 of all rows, then bit 1 of all, and so on.
+fn bit_rows(m: u32, parity: &[Vec<Elem>]) -> impl Iterator<Item = BitRow> + '_ {
+    let bit_of_row = |bit: u32, row: &Vec<Elem>| BitRow::new(row.iter().map(|entry| entry >> bit & 1 == 1));
+    (0..m).flat_map(move |bit| parity.iter().map(move |row| bit_of_row(bit, row)))
+}
+
+/// Row reduction from the left, for rows of this length. Gives the columns in which a row has its first 1, and those
+/// rows.
+fn reduce(rows: impl Iterator<Item = BitRow>, length: usize) -> (Vec<usize>, Vec<BitRow>) {
+    let mut by_first_one = vec![None; length];
+    for row in rows {
+        insert(&mut by_first_one, row);
+        if by_first_one.iter().all(Option::is_some) {
+            break; // every further row is a sum of these
+        }
+    }
+    let found = by_first_one.into_iter().enumerate().filter_map(|(column, row)| Some((column, row?)));
+    let (columns, mut rows): (Vec<usize>, Vec<BitRow>) = found.unzip();
+    // From the last row up, so that what is added has the first 1 of no other row.
+    for row in (0..rows.len()).rev() {
+        for below in row + 1..rows.len() {
+            if rows[row].has(columns[below]) {
+                let other = rows[below];
+                rows[row].add(&other);
             }
         }
-        first_ones.push(column);
     }
-    rows.truncate(first_ones.len());
-    (first_ones, rows)
+    (columns, rows)
+}
+
+/// Adds to a row those rows whose first 1 stands where its own does, until its first 1 stands where no other's does, or
+/// nothing is left of it.
+fn insert(by_first_one: &mut [Option<BitRow>], mut row: BitRow) {
+    while let Some(column) = row.first_one() {
+        match &by_first_one[column] {
+            Some(other) => row.add(other),
+            None => {
+                by_first_one[column] = Some(row);
+                return;
+            }
+        }
+    }
 }
 
 /// 8 for a byte other than 0 or 1.
@@ -163,7 +214,7 @@ mod tests {
     use crate::bits::{bits, ones_at};
     use crate::draw;
     use crate::random::Random;
-    use std::collections::HashSet;
+    use std::collections::{HashMap, HashSet};
 
     #[test]
     fn cases() {
@@ -192,7 +243,7 @@ mod tests {
     #[test]
     fn roles_by_all_choices_of_earlier_columns() {
         let mut random = Random::new(15);
-        for code in draw::codes(&mut random, 16) {
+        for code in draw::codes(&mut random, draw::fewer_shapes(), 16) {
             // The sums of all choices among the columns before j.
             let mut sums = HashSet::from([vec![0; code.params.t as usize]]);
             for j in 0..code.length() {
@@ -210,23 +261,20 @@ mod tests {
     #[test]
     fn roles_by_the_rank_of_the_columns() {
         let mut random = Random::new(18);
-        for code in draw::codes(&mut random, 128) {
-            // Columns whose highest bits all differ, with the same sums as the columns so far.
-            let mut independent: Vec<Vec<u8>> = Vec::new();
+        for code in draw::codes(&mut random, draw::fewer_shapes(), 512) {
+            // Columns by their highest bits, which all differ; they have the same sums as the columns so far.
+            let mut independent: HashMap<usize, Vec<u8>> = HashMap::new();
             for j in 0..code.length() {
                 let entries = column(&code, j);
                 let bit_of_column = |bit: u32| entries.iter().map(move |entry| u8::from(entry >> bit & 1 == 1));
                 let mut bits: Vec<u8> = (0..code.params.m).flat_map(bit_of_column).collect();
-                let highest = |bits: &Vec<u8>| bits.iter().rposition(|&bit| bit == 1);
-                while let Some(other) = independent.iter().find(|other| highest(other) == highest(&bits)) {
+                let highest = |bits: &[u8]| bits.iter().rposition(|&bit| bit == 1);
+                while let Some(other) = highest(&bits).and_then(|place| independent.get(&place)) {
                     bits.iter_mut().zip(other).for_each(|(bit, other)| *bit ^= other);
-                    if highest(&bits).is_none() {
-                        break;
-                    }
                 }
                 assert_eq!(code.roles[j], u8::from(highest(&bits).is_none()), "{:?}, column {j}", code.params);
-                if highest(&bits).is_some() {
-                    independent.push(bits);
+                if let Some(place) = highest(&bits) {
+                    independent.insert(place, bits);
                 }
             }
         }
@@ -236,7 +284,7 @@ mod tests {
     #[test]
     fn one_code_word_for_each_message() {
         let mut random = Random::new(16);
-        for code in draw::codes(&mut random, 8) {
+        for code in draw::codes(&mut random, draw::shapes(), 8) {
             let words = (0..1 << code.length()).map(|number| bits(number, code.length()));
             let code_words: Vec<Vec<u8>> = words.filter(|word| code.is_code_word(word)).collect();
             assert_eq!(code_words.len(), 1 << code.k(), "{:?}", code.params);
@@ -249,7 +297,7 @@ mod tests {
     #[test]
     fn encoded_messages_are_code_words_that_carry_them() {
         let mut random = Random::new(17);
-        for code in draw::codes(&mut random, 128) {
+        for code in draw::codes(&mut random, draw::shapes(), 512) {
             for _ in 0..10 {
                 let message = random.bits(code.k());
                 let word = code.encode(&message);
@@ -262,10 +310,42 @@ mod tests {
     /// Over the bits the parity matrix has m times t rows; its rank and k make up n.
     #[test]
     fn bits_of_the_parity_matrix() {
-        assert_eq!(bit_rows(3, &[vec![1, 2], vec![4, 7]]), [[1, 0], [0, 1], [0, 1], [0, 1], [0, 0], [1, 1]]);
+        let expected = [[1, 0], [0, 1], [0, 1], [0, 1], [0, 0], [1, 1]].map(|row| BitRow::new(row.map(|bit| bit == 1)));
+        assert!(bit_rows(3, &[vec![1, 2], vec![4, 7]]).eq(expected));
         let code = Code::new(&code_t());
-        assert_eq!(bit_rows(5, &code.parity).len(), 10);
+        assert_eq!(bit_rows(5, &code.parity).count(), 10);
         assert_eq!(code.reduced.len(), 10);
+    }
+
+    /// A reduced row has its first 1 in its check column, a 1 in no other check column, and the sum zero over every code
+    /// word.
+    #[test]
+    fn reduced_rows() {
+        let mut random = Random::new(22);
+        for code in draw::codes(&mut random, draw::fewer_shapes(), 512) {
+            let checks = code.columns(0);
+            assert_eq!(code.reduced.len(), checks.len());
+            for (row, &check) in code.reduced.iter().zip(&checks) {
+                assert_eq!(row.first_one(), Some(check), "{:?}", code.params);
+                assert!(checks.iter().all(|&other| row.has(other) == (other == check)), "{:?}", code.params);
+            }
+            let word = code.encode(&random.bits(code.k()));
+            let word = BitRow::new(word.iter().map(|&bit| bit == 1));
+            assert!(code.reduced.iter().all(|row| row.sum_within(&word) == 0), "{:?}", code.params);
+        }
+    }
+
+    #[test]
+    fn rows_of_bits() {
+        for places in [&[][..], &[0], &[63], &[64], &[511], &[3, 127, 128, 300, 511]] {
+            let row = BitRow::new((0..512).map(|place| places.contains(&place)));
+            assert!((0..512).all(|place| row.has(place) == places.contains(&place)), "{places:?}");
+            assert_eq!(row.first_one(), places.first().copied());
+            assert_eq!(usize::from(row.sum_within(&row)), places.len() % 2);
+            let mut sum = row;
+            sum.add(&row);
+            assert_eq!(sum, BitRow::default());
+        }
     }
 
     #[test]

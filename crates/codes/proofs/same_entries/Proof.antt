@@ -35,8 +35,14 @@ loop-holds : tie.Need-loop-holds Inv-loop μ-loop
 loop-holds c =
     let s = c .before .args in (refl, scanning-start (length (s .a .now)) (sameEntry (s .a .now) (s .b .now)))
 
+mul-if2 : tie.Need-mul-if2 Inv-loop μ-loop
+mul-if2 c = search needs
+
 shared-slice-read-if2 : tie.Need-shared-slice-read-if2 Inv-loop μ-loop
 shared-slice-read-if2 c = search needs
+
+mul-if2-2 : tie.Need-mul-if2-2 Inv-loop μ-loop
+mul-if2-2 c = search needs
 
 shared-slice-read-if2-2 : tie.Need-shared-slice-read-if2-2 Inv-loop μ-loop
 shared-slice-read-if2-2 c = search needs
@@ -81,7 +87,9 @@ same-entries-spec =
     μ-loop
     returns
     loop-holds
+    mul-if2
     shared-slice-read-if2
+    mul-if2-2
     shared-slice-read-if2-2
     returns-2
     add-i

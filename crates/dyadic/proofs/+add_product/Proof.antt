@@ -67,6 +67,9 @@ returns t c = c .before .before .add-single .ensures
 slice-aggregate-a-low : (t : ℕ) → lts.Need-slice-aggregate-a-low (callees t) (given t) reads.Post
 slice-aggregate-a-low t c = sym (known t (c .before) .a-low .size)
 
+mul-a-high : (t : ℕ) → lts.Need-mul-a-high (callees t) (given t) reads.Post
+mul-a-high t c = search needs
+
 sub-a-high : (t : ℕ) → lts.Need-sub-a-high (callees t) (given t) reads.Post
 sub-a-high t c = search needs
 
@@ -78,6 +81,9 @@ part-a-high-end t c = search needs
 
 slice-aggregate-b-low : (t : ℕ) → lts.Need-slice-aggregate-b-low (callees t) (given t) reads.Post
 slice-aggregate-b-low t c = sym (known t (c .before .before .before) .b-low .size)
+
+mul-b-high : (t : ℕ) → lts.Need-mul-b-high (callees t) (given t) reads.Post
+mul-b-high t c = search needs
 
 sub-b-high : (t : ℕ) → lts.Need-sub-b-high (callees t) (given t) reads.Post
 sub-b-high t c = search needs
@@ -116,6 +122,9 @@ add-product-requires-2 t c κs =
     let p1 = add-low (m t e) _ _ (parts t e) (c1 .add-product .ensures) in
     call t e (known t e .a-high) (known t e .b-high) _ (low-room p1)
 
+mul-add-product : (t : ℕ) → lts.Need-mul-add-product (callees t) (given t) reads.Post
+mul-add-product t c = search needs
+
 sub-add-product : (t : ℕ) → lts.Need-sub-add-product (callees t) (given t) reads.Post
 sub-add-product t c = search needs
 
@@ -133,6 +142,9 @@ add-product-requires-3 t c κs =
     let p1 = add-low (m t e) _ _ (parts t e) (c1 .add-product .ensures) in
     let p2 = add-low (m t e) _ _ p1 (c2 .add-product2 .ensures) in
     call t e (known t e .a-low) (known t e .b-high) _ (high-room p2)
+
+mul-add-product-2 : (t : ℕ) → lts.Need-mul-add-product-2 (callees t) (given t) reads.Post
+mul-add-product-2 t c = search needs
 
 sub-add-product-2 : (t : ℕ) → lts.Need-sub-add-product-2 (callees t) (given t) reads.Post
 sub-add-product-2 t c = search needs
@@ -178,10 +190,12 @@ pub +add-product-spec : {M : Type 1} → statement M
     (same-length t)
     (returns t)
     (slice-aggregate-a-low t)
+    (mul-a-high t)
     (sub-a-high t)
     (part-a-high-start t)
     (part-a-high-end t)
     (slice-aggregate-b-low t)
+    (mul-b-high t)
     (sub-b-high t)
     (part-b-high-start t)
     (part-b-high-end t)
@@ -191,10 +205,12 @@ pub +add-product-spec : {M : Type 1} → statement M
     (slice-relend-prefix-add-product-2 t)
     (slice-aggregate-add-product-2 t)
     (add-product-requires-2 t)
+    (mul-add-product t)
     (sub-add-product t)
     (part-add-product-start t)
     (part-add-product-end t)
     (add-product-requires-3 t)
+    (mul-add-product-2 t)
     (sub-add-product-2 t)
     (part-add-product-start-2 t)
     (part-add-product-end-2 t)

@@ -16,6 +16,9 @@ abbrev μ-loop : tie.MeasureT-loop
 loop-holds : tie.Need-loop-holds Inv-loop μ-loop
 loop-holds c = filling-start (λ (j : ℕ). 0) (length (c .args .out .now)) (c .args .out .now) refl
 
+mul-out : tie.Need-mul-out Inv-loop μ-loop
+mul-out c = search needs
+
 slice-write-out : tie.Need-slice-write-out Inv-loop μ-loop
 slice-write-out c = filling-index (c .before .loop .inv) (c .loop-test .taken)
 
@@ -35,4 +38,4 @@ returns : tie.Need-returns Inv-loop μ-loop
 returns c = filling-end (c .before .loop .inv) (c .loop-test .left)
 
 pub clear-spec : {M : Type 1} → statement M
-clear-spec = tie.close (tie.spec Inv-loop μ-loop loop-holds slice-write-out add-i loop-less loop-again same-length returns)
+clear-spec = tie.close (tie.spec Inv-loop μ-loop loop-holds mul-out slice-write-out add-i loop-less loop-again same-length returns)

@@ -27,6 +27,9 @@ loop-holds c =
     let g = c .before .before .before .args in
     filling-start (quotients (g .m) (g .a .now) (g .c)) (length (g .a .now)) (g .out .now) (c .before .before .before .pre .3)
 
+mul-product : tie.Need-mul-product Inv-loop μ-loop
+mul-product c = search needs
+
 shared-slice-read-product : tie.Need-shared-slice-read-product Inv-loop μ-loop
 shared-slice-read-product c = search needs
 
@@ -34,6 +37,9 @@ product-requires : tie.Need-product-requires Inv-loop μ-loop
 product-requires c κs =
     let pre = c .before .before .before .before .before .before .pre in
     (pre .0, pre .1 (c .before .before .loop .i) (c .before .loop-test .taken), c .before .before .before .inverse .ensures .1)
+
+mul-out : tie.Need-mul-out Inv-loop μ-loop
+mul-out c = search needs
 
 slice-write-out : tie.Need-slice-write-out Inv-loop μ-loop
 slice-write-out c = filling-index (c .before .before .before .loop .inv) (c .before .before .loop-test .taken)
@@ -66,8 +72,10 @@ divide-spec =
     μ-loop
     inverse-requires
     loop-holds
+    mul-product
     shared-slice-read-product
     product-requires
+    mul-out
     slice-write-out
     add-i
     loop-less

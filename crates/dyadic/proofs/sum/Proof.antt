@@ -22,11 +22,20 @@ abbrev μ-loop : tie.MeasureT-loop
 loop-holds : tie.Need-loop-holds Inv-loop μ-loop
 loop-holds c = filling-start (sums (c .args .a .now) (c .args .b .now)) (length (c .args .a .now)) (c .args .out .now) (c .pre .1)
 
+mul-out : tie.Need-mul-out Inv-loop μ-loop
+mul-out c = search needs
+
 shared-slice-read-out : tie.Need-shared-slice-read-out Inv-loop μ-loop
 shared-slice-read-out c = search needs
 
+mul-out-2 : tie.Need-mul-out-2 Inv-loop μ-loop
+mul-out-2 c = search needs
+
 shared-slice-read-out-2 : tie.Need-shared-slice-read-out-2 Inv-loop μ-loop
 shared-slice-read-out-2 c = search needs
+
+mul-out-3 : tie.Need-mul-out-3 Inv-loop μ-loop
+mul-out-3 c = search needs
 
 slice-write-out : tie.Need-slice-write-out Inv-loop μ-loop
 slice-write-out c = filling-index (c .before .before .before .loop .inv) (c .before .before .loop-test .taken)
@@ -55,8 +64,11 @@ sum-spec =
     Inv-loop
     μ-loop
     loop-holds
+    mul-out
     shared-slice-read-out
+    mul-out-2
     shared-slice-read-out-2
+    mul-out-3
     slice-write-out
     add-i
     loop-less

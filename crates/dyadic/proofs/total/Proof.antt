@@ -23,6 +23,9 @@ loop-holds : tie.Need-loop-holds Inv-loop μ-loop
 unfolding sum
 loop-holds c = (refl, omega arith, λ m. refl)
 
+mul-sum : tie.Need-mul-sum Inv-loop μ-loop
+mul-sum c = search needs
+
 shared-slice-read-sum : tie.Need-shared-slice-read-sum Inv-loop μ-loop
 shared-slice-read-sum c = search needs
 
@@ -51,6 +54,4 @@ returns c =
     λ m. l .inv .2 m ∙ ap (λ (k : ℕ). sum (gf m) k (entry (gf m) a)) whole
 
 pub total-spec : {M : Type 1} → statement M
-total-spec =
-    tie.close
-    (tie.spec Inv-loop μ-loop loop-holds shared-slice-read-sum add-i loop-less loop-again returns)
+total-spec = tie.close (tie.spec Inv-loop μ-loop loop-holds mul-sum shared-slice-read-sum add-i loop-less loop-again returns)

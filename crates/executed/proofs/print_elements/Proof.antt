@@ -16,6 +16,9 @@ abbrev μ-loop : tie.MeasureT-loop
 loop-holds : tie.Need-loop-holds Inv-loop μ-loop
 loop-holds c = search needs
 
+mul-print-number : tie.Need-mul-print-number Inv-loop μ-loop
+mul-print-number c = search needs
+
 shared-slice-read-print-number : tie.Need-shared-slice-read-print-number Inv-loop μ-loop
 shared-slice-read-print-number c = search needs
 
@@ -50,6 +53,7 @@ print-elements-spec =
     Inv-loop
     μ-loop
     loop-holds
+    mul-print-number
     shared-slice-read-print-number
     cast-print-number
     print-number-requires

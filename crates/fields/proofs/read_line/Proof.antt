@@ -39,6 +39,9 @@ cast-numbers c =
     line-small (s .args .text .now) (s .args .at) (length (s .args .numbers .now)) (s .pre .1) i (omega arith) in
     omega (arith, c .value-at .ensures)
 
+mul-numbers : tie.Need-mul-numbers Inv-loop μ-loop
+mul-numbers c = search needs
+
 slice-write-numbers : tie.Need-slice-write-numbers Inv-loop μ-loop
 slice-write-numbers c = filling-index (c .before .before .loop .inv .1) (omega arith)
 
@@ -69,6 +72,7 @@ read-line-spec =
     add-value-at
     value-at-requires
     cast-numbers
+    mul-numbers
     slice-write-numbers
     add-i
     loop-less

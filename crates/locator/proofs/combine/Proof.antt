@@ -5,6 +5,7 @@ use Rattle.algebra.specs.Filling.{Filling, filling-index, filling-length}
 use Rattle.algebra.specs.Xor.{_⊕_}
 use Rattle.locator.specs.Coefficients.{half}
 use Rattle.locator.proofs.Loops.{combined, combine-start, combine-element, combine-turn, combine-end}
+use borrow.Author.Needs.{needs}
 use Rattle.locator.proofs.combine.Statement.{statement}
 use Rattle.locator.proofs.combine.Tie as tie
 
@@ -19,6 +20,9 @@ loop-holds c =
     let start = c .before .before in
     (omega arith, combine-start (start .pre .0 .0) (start .args .a) (start .args .b) (start .pre .1 .0) (start .pre .1 .1))
 
+mul-product : tie.Need-mul-product Inv-loop μ-loop
+mul-product c = search needs
+
 slice-read-product : tie.Need-slice-read-product Inv-loop μ-loop
 slice-read-product c =
     let pre = c .before .before .before .before .before .pre in
@@ -30,6 +34,9 @@ product-requires c κs =
     let own = combine-element (start .pre .0 .0) (start .args .a) (start .args .b) (start .pre .1 .0) (start .pre .1 .1) in
     (start .pre .0 .0, start .pre .0 .2, own (c .before .before .loop .inv .1))
 
+mul-product-2 : tie.Need-mul-product-2 Inv-loop μ-loop
+mul-product-2 c = search needs
+
 shared-slice-read-product : tie.Need-shared-slice-read-product Inv-loop μ-loop
 shared-slice-read-product c =
     let pre = c .before .before .before .before .before .before .before .pre in
@@ -39,6 +46,9 @@ product-requires-2 : tie.Need-product-requires-2 Inv-loop μ-loop
 product-requires-2 c κs =
     let pre = c .before .before .before .before .before .before .before .pre in
     (pre .0 .0, pre .0 .3, pre .1 .0 .inside _)
+
+mul-other : tie.Need-mul-other Inv-loop μ-loop
+mul-other c = search needs
 
 slice-write-other : tie.Need-slice-write-other Inv-loop μ-loop
 slice-write-other c =
@@ -80,10 +90,13 @@ combine-spec =
     Inv-loop
     μ-loop
     loop-holds
+    mul-product
     slice-read-product
     product-requires
+    mul-product-2
     shared-slice-read-product
     product-requires-2
+    mul-other
     slice-write-other
     add-k
     loop-less

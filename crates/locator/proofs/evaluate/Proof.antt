@@ -2,6 +2,7 @@
 use native.Mathlib.Omega.{arith}
 use Rattle.algebra.specs.Xor.{_⊕_}
 use Rattle.locator.proofs.Loops.{Evaluating, evaluate-empty, evaluate-start, evaluate-turn, evaluate-end}
+use borrow.Author.Needs.{needs}
 use Rattle.locator.proofs.evaluate.Statement.{statement}
 use Rattle.locator.proofs.evaluate.Tie as tie
 
@@ -19,6 +20,9 @@ returns c =
 sub-k : tie.Need-sub-k Inv-loop μ-loop
 sub-k c = omega arith
 
+mul-value : tie.Need-mul-value Inv-loop μ-loop
+mul-value c = search needs
+
 shared-slice-read-value : tie.Need-shared-slice-read-value Inv-loop μ-loop
 shared-slice-read-value c =
     let pre = c .before .before .before .pre in
@@ -31,6 +35,9 @@ loop-holds c =
 
 sub-k-2 : tie.Need-sub-k-2 Inv-loop μ-loop
 sub-k-2 c = omega arith
+
+mul-value-2 : tie.Need-mul-value-2 Inv-loop μ-loop
+mul-value-2 c = search needs
 
 shared-slice-read-value-2 : tie.Need-shared-slice-read-value-2 Inv-loop μ-loop
 shared-slice-read-value-2 c =
@@ -65,9 +72,11 @@ evaluate-spec =
     μ-loop
     returns
     sub-k
+    mul-value
     shared-slice-read-value
     loop-holds
     sub-k-2
+    mul-value-2
     shared-slice-read-value-2
     product-requires
     loop-less

@@ -5,6 +5,7 @@ use native.Mathlib.Omega.{arith}
 use lib.ListN.{length}
 use Rattle.locator.specs.Coefficients.{Passed}
 use Rattle.locator.proofs.Turns.{passed-none, passed-more, passed-all}
+use borrow.Author.Needs.{needs}
 use Rattle.locator.proofs.pass.Statement.{statement}
 use Rattle.locator.proofs.pass.Tie as tie
 
@@ -24,16 +25,22 @@ loop-holds c =
     let entry = started .before .before .before .before .before .before .before .before .before .before .before in
     (refl, omega arith, passed-none (entry .pre .0 .0) (entry .args .roots .now) (entry .args .syndrome .now) (started .start .ensures))
 
+mul-advance : tie.Need-mul-advance Inv-loop μ-loop
+mul-advance c = search needs
+
 shared-slice-read-advance : tie.Need-shared-slice-read-advance Inv-loop μ-loop
 shared-slice-read-advance c = omega arith
+
+mul-advance-2 : tie.Need-mul-advance-2 Inv-loop μ-loop
+mul-advance-2 c = search needs
 
 shared-slice-read-advance-2 : tie.Need-shared-slice-read-advance-2 Inv-loop μ-loop
 shared-slice-read-advance-2 c =
     let started = c .before .before .before .before .before .before .before .before .before .before .before .before in
     omega (arith, started .before .before .before .before .before .before .before .before .before .before .before .pre .0 .2 .long)
 
-mul-advance : tie.Need-mul-advance Inv-loop μ-loop
-mul-advance c =
+mul-advance-3 : tie.Need-mul-advance-3 Inv-loop μ-loop
+mul-advance-3 c =
     let started = c .before .before .before .before .before .before .before .before .before .before .before .before in
     omega (arith, started .before .before .before .before .before .before .before .before .before .before .before .pre .0 .2 .few)
 
@@ -123,9 +130,11 @@ pass-spec =
     μ-loop
     start-requires
     loop-holds
-    shared-slice-read-advance
-    shared-slice-read-advance-2
     mul-advance
+    shared-slice-read-advance
+    mul-advance-2
+    shared-slice-read-advance-2
+    mul-advance-3
     add-advance
     sub-advance
     advance-requires

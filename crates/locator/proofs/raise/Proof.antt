@@ -5,6 +5,7 @@ use native.Mathlib.Omega.{arith}
 use Rattle.algebra.specs.Filling.{filling-length}
 use Rattle.algebra.specs.Xor.{_⊕_}
 use Rattle.locator.proofs.Loops.{Raising, raise-start, raise-index, raise-element, raise-turn, raise-end}
+use borrow.Author.Needs.{needs}
 use Rattle.locator.proofs.raise.Statement.{statement}
 use Rattle.locator.proofs.raise.Tie as tie
 
@@ -22,6 +23,9 @@ loop-holds c =
     let start = c .before in
     (refl, raise-start (start .pre .0) (start .args .r) (start .pre .3))
 
+mul-here : tie.Need-mul-here Inv-loop μ-loop
+mul-here c = search needs
+
 slice-read-here : tie.Need-slice-read-here Inv-loop μ-loop
 slice-read-here c =
     let start = c .before .before .before .before in
@@ -31,6 +35,9 @@ product-requires : tie.Need-product-requires Inv-loop μ-loop
 product-requires c κs =
     let start = c .before .before .before .before in
     (start .pre .0, start .pre .2, raise-element (start .pre .0) (start .args .r) (start .pre .3) (c .before .before .loop .inv .1))
+
+mul-pivot : tie.Need-mul-pivot Inv-loop μ-loop
+mul-pivot c = search needs
 
 slice-write-pivot : tie.Need-slice-write-pivot Inv-loop μ-loop
 slice-write-pivot c =
@@ -68,8 +75,10 @@ raise-spec =
     μ-loop
     add-k-end
     loop-holds
+    mul-here
     slice-read-here
     product-requires
+    mul-pivot
     slice-write-pivot
     add-k
     loop-less

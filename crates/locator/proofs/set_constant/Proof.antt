@@ -6,6 +6,7 @@ use lib.ListN.{length-set}
 use Rattle.algebra.specs.Filling.{Filling, filling-start, filling-index, filling-turn, filling-length}
 use Rattle.locator.specs.Coefficients.{half}
 use Rattle.locator.proofs.Loops.{constant-end}
+use borrow.Author.Needs.{needs}
 use Rattle.locator.proofs.set_constant.Statement.{statement}
 use Rattle.locator.proofs.set_constant.Tie as tie
 
@@ -17,6 +18,9 @@ abbrev μ-loop : tie.MeasureT-loop
 
 loop-holds : tie.Need-loop-holds Inv-loop μ-loop
 loop-holds c = (c .pre, filling-start (λ j. 0) half (c .args .coefficients .now) (c .pre))
+
+mul-coefficients : tie.Need-mul-coefficients Inv-loop μ-loop
+mul-coefficients c = search needs
 
 slice-write-coefficients : tie.Need-slice-write-coefficients Inv-loop μ-loop
 slice-write-coefficients c = filling-index (c .before .loop .inv .1) (omega arith)
@@ -52,6 +56,7 @@ set-constant-spec =
     Inv-loop
     μ-loop
     loop-holds
+    mul-coefficients
     slice-write-coefficients
     add-k
     loop-less

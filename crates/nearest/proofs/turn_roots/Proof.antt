@@ -46,6 +46,11 @@ shared-slice-read-bit : tie.Need-shared-slice-read-bit Inv-loop μ-loop
 shared-slice-read-bit c =
     omega (arith, c .before .before .before .before .before .before .before .before .before .before .pre .1 .1 .0, c .before .before .loop-test .taken)
 
+mul-is-root : tie.Need-mul-is-root Inv-loop μ-loop
+mul-is-root c =
+    let s = c .before .before .before .before .before .before .before .before .before .before in
+    omega (arith, s .pre .1 .0 (c .before .before .before .loop .j) (c .before .before .loop-test .taken))
+
 shared-slice-read-is-root : tie.Need-shared-slice-read-is-root Inv-loop μ-loop
 shared-slice-read-is-root c =
     c .before .before .before .before .before .before .before .before .before .before .before .pre .1 .0 (c .before .before .before .before .loop .j)
@@ -103,6 +108,7 @@ turn-roots-spec =
     shared-slice-read-column
     cast-column
     shared-slice-read-bit
+    mul-is-root
     shared-slice-read-is-root
     is-root-requires
     add-turned

@@ -22,6 +22,9 @@ loop-holds c = (refl, omega arith, λ k l p e. omega arith)
 shared-slice-read-first : tie.Need-shared-slice-read-first Inv-loop μ-loop
 shared-slice-read-first c = search needs
 
+mul-other : tie.Need-mul-other Inv-loop μ-loop
+mul-other c = search needs
+
 shared-slice-read-other : tie.Need-shared-slice-read-other Inv-loop μ-loop
 shared-slice-read-other c = search needs
 
@@ -51,4 +54,4 @@ returns-2 c =
 pub all-different-spec : {M : Type 1} → statement M
 all-different-spec =
     tie.close
-    (tie.spec Inv-loop μ-loop loop-holds shared-slice-read-first shared-slice-read-other returns add-i loop-less loop-again returns-2)
+    (tie.spec Inv-loop μ-loop loop-holds shared-slice-read-first mul-other shared-slice-read-other returns add-i loop-less loop-again returns-2)

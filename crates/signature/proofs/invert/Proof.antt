@@ -43,6 +43,9 @@ loop-holds c =
 sub-i : tie.Need-sub-i Inv-loop μ-loop
 sub-i c = search needs
 
+mul-product : tie.Need-mul-product Inv-loop μ-loop
+mul-product c = search needs
+
 slice-read-product : tie.Need-slice-read-product Inv-loop μ-loop
 slice-read-product c =
     let s = c .before .before .before .before .before .before .before .before .before .before in
@@ -55,11 +58,17 @@ product-requires c κs =
     let l = c .before .before .loop in
     (s .pre .0 .width, entry-in (s .args .m) (l .inv .0) (s .args .h .now) (l .inv .1) (l .inv .2) (c .before .loop-test .taken), l .inv .2 .rest-in)
 
+mul-inverses : tie.Need-mul-inverses Inv-loop μ-loop
+mul-inverses c = search needs
+
 slice-write-inverses : tie.Need-slice-write-inverses Inv-loop μ-loop
 slice-write-inverses c =
     let s = c .before .before .before .before .before .before .before .before .before .before .before in
     let l = c .before .before .before .loop in
     inverting-index (s .args .m) (l .inv .0) (s .args .h .now) (l .inv .1) (l .inv .2) (c .before .before .loop-test .taken)
+
+mul-product-2 : tie.Need-mul-product-2 Inv-loop μ-loop
+mul-product-2 c = search needs
 
 shared-slice-read-product : tie.Need-shared-slice-read-product Inv-loop μ-loop
 shared-slice-read-product c = omega (arith, c .before .before .before .before .loop .inv .2 .bound, c .before .before .before .loop-test .taken)
@@ -111,9 +120,12 @@ invert-spec =
     inverse-requires
     loop-holds
     sub-i
+    mul-product
     slice-read-product
     product-requires
+    mul-inverses
     slice-write-inverses
+    mul-product-2
     shared-slice-read-product
     product-requires-2
     loop-less

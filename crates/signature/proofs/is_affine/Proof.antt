@@ -29,6 +29,9 @@ scan-holds : tie.Need-scan-holds Inv-loop μ-loop Inv-scan μ-scan
 unfolding all
 scan-holds c = (refl, omega arith, refl)
 
+mul-sum : tie.Need-mul-sum Inv-loop μ-loop Inv-scan μ-scan
+mul-sum c = search needs
+
 shared-slice-read-sum : tie.Need-shared-slice-read-sum Inv-loop μ-loop Inv-scan μ-scan
 shared-slice-read-sum c = search needs
 
@@ -38,6 +41,16 @@ shared-slice-read-sum-2 c = search needs
 loop-holds : tie.Need-loop-holds Inv-loop μ-loop Inv-scan μ-scan
 unfolding all _⊕_
 loop-holds c = (c .before .before .before .scan .inv .0, refl, omega arith, refl)
+
+mul-at : tie.Need-mul-at Inv-loop μ-loop Inv-scan μ-scan
+unfolding _⊕_
+mul-at c =
+    let s = c .before .before .before .before .before in
+    omega (
+      arith,
+      index-below (s .before .args .n) (s .scan .i) (c .before .loop .j) (s .before .pre .0) (c .before .before .before .before .scan-test .taken)
+          (c .loop-test .taken),
+    )
 
 shared-slice-read-at : tie.Need-shared-slice-read-at Inv-loop μ-loop Inv-scan μ-scan
 unfolding _⊕_
@@ -49,6 +62,9 @@ shared-slice-read-at c =
       index-below n (s .scan .i) (c .before .before .loop .j) (s .before .pre .0) (c .before .before .before .before .before .scan-test .taken)
           (c .before .loop-test .taken),
     )
+
+mul-expected : tie.Need-mul-expected Inv-loop μ-loop Inv-scan μ-scan
+mul-expected c = search needs
 
 shared-slice-read-expected : tie.Need-shared-slice-read-expected Inv-loop μ-loop Inv-scan μ-scan
 shared-slice-read-expected c = search needs
@@ -119,10 +135,13 @@ is-affine-spec =
     Inv-scan
     μ-scan
     scan-holds
+    mul-sum
     shared-slice-read-sum
     shared-slice-read-sum-2
     loop-holds
+    mul-at
     shared-slice-read-at
+    mul-expected
     shared-slice-read-expected
     add-j
     loop-less

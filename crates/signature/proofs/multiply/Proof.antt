@@ -22,11 +22,17 @@ loop-holds c =
     let s = c .before .before in
     (refl, s .pre .width, multiplying-start (s .args .m) (s .pre .width) (s .args .h .now) (s .args .products .now))
 
+mul-products : tie.Need-mul-products Inv-loop μ-loop
+mul-products c = search needs
+
 slice-write-products : tie.Need-slice-write-products Inv-loop μ-loop
 slice-write-products c =
     let s = c .before .before .before .before in
     let l = c .before .loop in
     omega (arith, multiplying-length (s .args .m) (l .inv .1) (s .args .h .now) (s .pre .fits) (l .inv .2), c .loop-test .taken)
+
+mul-product : tie.Need-mul-product Inv-loop μ-loop
+mul-product c = search needs
 
 shared-slice-read-product : tie.Need-shared-slice-read-product Inv-loop μ-loop
 shared-slice-read-product c = search needs
@@ -83,7 +89,9 @@ multiply-spec =
     Inv-loop
     μ-loop
     loop-holds
+    mul-products
     slice-write-products
+    mul-product
     shared-slice-read-product
     product-requires
     add-i

@@ -23,6 +23,9 @@ loop-holds : tie.Need-loop-holds Inv-loop μ-loop
 loop-holds c =
     let a = c .before .args in (c .before .pre, refl, scanning-start (length (a .a .now)) (λ k. isElement (a .m) (entryOf (a .a .now) k)))
 
+mul-is-element : tie.Need-mul-is-element Inv-loop μ-loop
+mul-is-element c = search needs
+
 shared-slice-read-is-element : tie.Need-shared-slice-read-is-element Inv-loop μ-loop
 shared-slice-read-is-element c = search needs
 
@@ -64,6 +67,7 @@ all-elements-spec =
     Inv-loop
     μ-loop
     loop-holds
+    mul-is-element
     shared-slice-read-is-element
     cast-is-element
     is-element-requires

@@ -20,6 +20,10 @@ shared-slice-read-at c = search needs
 cast-at : tie.Need-cast-at
 cast-at c = omega (arith, c .shared-slice-known .given (c .before .args .j))
 
+mul-result : tie.Need-mul-result
+unfolding _⊕_
+mul-result c = omega (arith, c .before .pre .2)
+
 shared-slice-read-result : tie.Need-shared-slice-read-result
 unfolding _⊕_
 shared-slice-read-result c = c .before .before .pre .2
@@ -45,6 +49,7 @@ parity-bit-spec =
     mul-at
     shared-slice-read-at
     cast-at
+    mul-result
     shared-slice-read-result
     cast-result
     shr-result

@@ -23,8 +23,14 @@ abbrev μ-loop : tie.MeasureT-loop
 loop-holds : tie.Need-loop-holds Inv-loop μ-loop
 loop-holds c = filling-start (sums (c .args .value .now) (c .args .other .now)) (length (c .args .value .now)) (c .args .value .now) refl
 
+mul-value : tie.Need-mul-value Inv-loop μ-loop
+mul-value c = search needs
+
 shared-slice-read-value : tie.Need-shared-slice-read-value Inv-loop μ-loop
 shared-slice-read-value c = search needs
+
+mul-value-2 : tie.Need-mul-value-2 Inv-loop μ-loop
+mul-value-2 c = search needs
 
 slice-read-value : tie.Need-slice-read-value Inv-loop μ-loop
 slice-read-value c = filling-index (c .before .before .before .loop .inv) (c .before .before .loop-test .taken)
@@ -60,7 +66,9 @@ add-spec =
     Inv-loop
     μ-loop
     loop-holds
+    mul-value
     shared-slice-read-value
+    mul-value-2
     slice-read-value
     slice-write-value
     add-i

@@ -49,6 +49,9 @@ loop-holds c =
     let g = c .before .before .before .before .before .args in
     filling-start (multiples (g .m) (g .value .now) (c .inverse .result)) (length (g .value .now)) (g .value .now) refl
 
+mul-product : tie.Need-mul-product Inv-loop μ-loop
+mul-product c = search needs
+
 slice-read-product : tie.Need-slice-read-product Inv-loop μ-loop
 slice-read-product c = filling-index (c .before .before .loop .inv) (c .before .loop-test .taken)
 
@@ -61,6 +64,9 @@ product-requires-2 c κs =
       subst (λ (x : ℕ). x < 2 ^ e .args .m) (sym old) (e .pre .1 (l .i) (c .before .loop-test .taken)),
       c .before .before .before .inverse .ensures .1,
     )
+
+mul-value : tie.Need-mul-value Inv-loop μ-loop
+mul-value c = search needs
 
 slice-write-value : tie.Need-slice-write-value Inv-loop μ-loop
 slice-write-value c = filling-index (c .before .before .before .loop .inv) (c .before .before .loop-test .taken)
@@ -104,8 +110,10 @@ invert-spec =
     product-requires
     inverse-requires
     loop-holds
+    mul-product
     slice-read-product
     product-requires-2
+    mul-value
     slice-write-value
     add-i
     loop-less

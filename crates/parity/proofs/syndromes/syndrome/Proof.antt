@@ -26,6 +26,9 @@ syndrome-at-requires c κs =
     let l = c .before .loop in
     (s .pre .0, s .pre .1 (l .i) (c .loop-test .taken))
 
+mul-out : tie.Need-mul-out Inv-loop μ-loop
+mul-out c = search needs
+
 slice-write-out : tie.Need-slice-write-out Inv-loop μ-loop
 slice-write-out c = filling-index (c .before .before .loop .inv .1) (omega arith)
 
@@ -52,6 +55,7 @@ syndrome-spec =
     μ-loop
     loop-holds
     syndrome-at-requires
+    mul-out
     slice-write-out
     add-i
     loop-less

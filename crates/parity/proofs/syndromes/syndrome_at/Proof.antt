@@ -32,13 +32,20 @@ cast-at c = omega (arith, c .shared-slice-known .given (c .before .before .loop 
 shared-slice-read-sum : tie.Need-shared-slice-read-sum Inv-loop μ-loop
 shared-slice-read-sum c = omega (arith, c .before .before .before .before .pre .0 .long)
 
+cast-sum : tie.Need-cast-sum Inv-loop μ-loop
+cast-sum c = omega (arith, c .shared-slice-known2 .given (c .before .before .before .loop .j))
+
+mul-sum : tie.Need-mul-sum Inv-loop μ-loop
+unfolding _⊕_
+mul-sum c = omega (arith, c .before .before .before .before .pre .1 (c .before .before .before .loop .j) (omega arith))
+
 shared-slice-read-sum-2 : tie.Need-shared-slice-read-sum-2 Inv-loop μ-loop
 unfolding _⊕_
 shared-slice-read-sum-2 c = c .before .before .before .before .before .pre .1 (c .before .before .before .before .loop .j) (omega arith)
 
-mul-sum : tie.Need-mul-sum Inv-loop μ-loop
+mul-sum-2 : tie.Need-mul-sum-2 Inv-loop μ-loop
 unfolding _⊕_
-mul-sum c =
+mul-sum-2 c =
     let pre = c .before .before .before .before .before .pre in
     let W = pre .0 .width in
     let j = c .before .before .before .before .loop .j in
@@ -80,8 +87,10 @@ syndrome-at-spec =
     shared-slice-read-at
     cast-at
     shared-slice-read-sum
-    shared-slice-read-sum-2
+    cast-sum
     mul-sum
+    shared-slice-read-sum-2
+    mul-sum-2
     add-j
     loop-less
     loop-again

@@ -1,0 +1,309 @@
+//! Nothing is cut on the way: every call with the greatest numbers, the longest lists, and elements that fill their
+//! bits. A number that went through a byte, or an element through too few bits, would come back as another.
+
+use zovunelith_tests::bits::{ones_at, turned};
+use zovunelith_tests::canary::Lent;
+use zovunelith_tests::draw;
+use zovunelith_tests::expect::{
+    comes_back, encoding_gives, message_gives, reading_gives, repair_gives, ride_gives, roles_give, syndrome_gives,
+    writing_gives,
+};
+use zovunelith_tests::library;
+use zovunelith_tests::random::Random;
+use zovunelith_tests::reference::columns::{Selection, Setting};
+use zovunelith_tests::reference::params::Params;
+use zovunelith_tests::reference::repair::Decoder;
+use zovunelith_tests::reference::ride::{self, Lists, Ridden};
+use zovunelith_tests::reference::rows::{self, Row};
+use zovunelith_tests::reference::words::Code;
+use zovunelith_tests::reference::{block, field, formula, params, sheet};
+use zovunelith_tests::Elem;
+
+/// The greatest element of the widest field.
+const GREATEST: Elem = Elem::MAX;
+
+/// An element of the widest field that has ones in its upper byte and in its lower one.
+fn high(random: &mut Random) -> Elem {
+    let byte = |random: &mut Random| 1 + random.below(255) as Elem;
+    byte(random) << 8 | byte(random)
+}
+
+/// An accepted code of the widest field whose signature has this entry at this place. The multiples of an accepted
+/// signature are accepted.
+fn code_with_entry(random: &mut Random, n: u32, t: u32, place: usize, entry: Elem) -> Params {
+    let params = draw::params(random, 16, n, t);
+    let factor = field::times(16, entry, field::reciprocal(16, params.h[place]));
+    let h: Vec<Elem> = params.h.iter().map(|&other| field::times(16, other, factor)).collect();
+    assert_eq!(h[place], entry);
+    Params { h, ..params }
+}
+
+/// The first places, the last, and those around the steps of a byte.
+const PLACES: [usize; 8] = [0, 1, 127, 128, 255, 256, 510, 511];
+
+/// Compares the check of a code, and its listing.
+#[track_caller]
+fn compare_card(code: &Params) -> (Vec<Elem>, Vec<Elem>) {
+    let expected = params::check(code, code.h.len(), code.h.len()).expect("accepted");
+    let (mut roots, mut support) = (Lent::marked(code.h.len()), Lent::marked(code.h.len()));
+    let numbers = (code.m, code.n, code.t, code.omega);
+    assert_eq!(library::params::check(numbers, &code.h, roots.slice_mut(), support.slice_mut()), Ok(()), "{code:?}");
+    roots.assert_holds(Some(&expected.0));
+    support.assert_holds(Some(&expected.1));
+    let listing = sheet::listing(&sheet::sheet(code)).expect("accepted");
+    let mut out = Lent::marked(listing.len());
+    assert_eq!(library::sheet::listing(&sheet::sheet(code), out.slice_mut()), Ok(listing.len()), "{code:?}");
+    out.assert_holds(Some(&listing));
+    expected
+}
+
+#[test]
+fn elements() {
+    let mut random = Random::new(1301);
+    let (top, upper, lower) = (u32::from(GREATEST), 0xFF00, 0x00FF);
+    let mut elements = vec![top, upper, lower, 0x8000, 0x0100, 0x0101, 0xFF01, 0x01FF, 0xFEFF, 0xFFFE];
+    elements.extend((0..200).map(|_| u32::from(high(&mut random))));
+    for &a in &elements {
+        assert_eq!(library::field::inverse(16, a), field::inverse(16, a), "inverse of {a}");
+        for &b in &elements {
+            assert_eq!(library::field::sum(16, a, b), Ok(a ^ b), "{a} plus {b}");
+            assert_eq!(library::field::product(16, a, b), field::product(16, a, b), "{a} times {b}");
+        }
+    }
+    assert_eq!(library::field::sum(16, upper, lower), Ok(top));
+    assert_eq!(library::field::product(16, 2, 0x8000), Ok(0x100B));
+    assert_eq!(library::field::product(16, top, 1), Ok(top));
+    let inverse = library::field::inverse(16, top).expect("an element");
+    assert_eq!(library::field::product(16, top, inverse), Ok(1));
+    assert_eq!(library::field::inverse(16, inverse), Ok(top));
+}
+
+#[test]
+fn the_greatest_offset() {
+    let mut random = Random::new(1302);
+    for (n, t) in [(2, 1), (16, 2), (256, 8), (512, 1), (512, 16)] {
+        let code = Params { omega: GREATEST.into(), ..draw::params(&mut random, 16, n, t) };
+        let (roots, support) = compare_card(&code);
+        // The first element of the support is the offset itself, and the first root is apart from it by 1/h_0.
+        assert_eq!((support[0], roots[0]), (GREATEST, GREATEST ^ field::reciprocal(16, code.h[0])));
+        let whole = Code::new(&code);
+        let sent = whole.encode(&random.bits(whole.k()));
+        comes_back(&code, &sent, &random.places(n as usize, t as usize));
+        let beyond = Params { omega: 65536, ..code };
+        assert_eq!(params::judge(&beyond, &[]), Err(3));
+        repair_gives(&beyond, &sent, Lent::marked(n as usize), &Err(3));
+    }
+}
+
+#[test]
+fn the_greatest_entry() {
+    let mut random = Random::new(1303);
+    for (n, t) in [(2, 1), (16, 4), (512, 2)] {
+        let place = n as usize - 1;
+        let code = code_with_entry(&mut random, n, t, place, GREATEST);
+        compare_card(&code);
+        let printed = String::from_utf8(sheet::sheet(&code)).expect("plain text");
+        assert!(printed.ends_with(" 65535\n"));
+        // On a sheet the next number is none, as is one that ends in it or begins with it.
+        for other in [" 65536", "165535", "655350", "065535"] {
+            let printed = printed[..printed.len() - 7].to_string() + other + "\n";
+            let mut out = Lent::marked(library::sheet::LONGEST);
+            assert_eq!(library::sheet::listing(printed.as_bytes(), out.slice_mut()), Err(13), "{other}");
+            out.assert_unchanged();
+        }
+        // The entry stands in the first sum of a word with a single 1 at its place.
+        let word = ones_at(n as usize, &[place]);
+        let column: Vec<Elem> = (0..t as usize).map(|i| code.h[i ^ place]).collect();
+        assert_eq!(column[0], GREATEST);
+        syndrome_gives(&code, &word, t as usize, &Ok(column));
+        comes_back(&code, &vec![0; n as usize], &[place]);
+    }
+}
+
+/// Codes that differ in the upper byte alone, of the offset or of an entry.
+#[test]
+fn codes_that_differ_in_the_upper_byte() {
+    let mut random = Random::new(1304);
+    for bit in 8..16 {
+        let one = draw::params(&mut random, 16, 512, 1);
+        let other = Params { omega: one.omega ^ 1 << bit, ..one.clone() };
+        let numbers = |code: &Params| (code.m, code.n, code.t, code.omega);
+        assert_eq!(library::params::same(numbers(&one), &one.h, numbers(&other), &other.h), Ok(false));
+        assert_eq!(library::params::same(numbers(&other), &other.h, numbers(&other), &other.h), Ok(true));
+        // At n = 2 any two entries will do that differ and are not zero.
+        let first: [Elem; 2] = [1, 2];
+        let second: [Elem; 2] = [1, 2 ^ 1 << bit];
+        assert_eq!(library::params::same((16, 2, 1, 0), &first, (16, 2, 1, 0), &second), Ok(false));
+        assert_eq!(library::params::check((16, 2, 1, 0), &[2, 2 ^ 1 << bit], &mut [0; 2], &mut [0; 2]), Ok(()));
+    }
+}
+
+/// Words of 512 places, of which up to 502 are message columns, or none.
+#[test]
+fn the_longest_words() {
+    let mut random = Random::new(1305);
+    for (m, t) in [(10, 1), (16, 1), (16, 2), (10, 32), (16, 16), (16, 256)] {
+        let code = Code::new(&draw::params(&mut random, m, 512, t));
+        let (params, k) = (&code.params, code.k());
+        compare_card(params);
+        roles_give(params, 512, &Ok((code.roles.clone(), k as u32)));
+        for message in [random.bits(k), vec![1; k]] {
+            let sent = code.encode(&message);
+            encoding_gives(params, &message, 512, &Ok(sent.clone()));
+            message_gives(params, &sent, k, &Ok(message));
+            for place in [255, 256, 511] {
+                comes_back(params, &sent, &[place]);
+            }
+        }
+        for place in PLACES {
+            let column = (0..t as usize).map(|i| params.h[i ^ place]).collect();
+            syndrome_gives(params, &ones_at(512, &[place]), t as usize, &Ok(column));
+        }
+    }
+}
+
+/// Compares every call on words over a selection of the longest code.
+#[track_caller]
+fn compare_selection(random: &mut Random, selection: &Selection) {
+    let (code, length) = (selection.code(), selection.length());
+    let t = code.params.t as usize;
+    roles_give(selection, length, &Ok((code.roles.clone(), code.k() as u32)));
+    let message = random.bits(code.k());
+    let sent = code.encode(&message);
+    encoding_gives(selection, &message, length, &Ok(sent.clone()));
+    message_gives(selection, &sent, code.k(), &Ok(message));
+    for place in [0, length / 2, length - 1] {
+        let word = ones_at(length, &[place]);
+        syndrome_gives(selection, &word, t, &Ok(code.syndrome(&word)));
+        comes_back(selection, &sent, &[place]);
+    }
+}
+
+/// Selections that name the last block of 512 columns, at the front and at the end, with every shift that there is.
+#[test]
+fn the_last_blocks() {
+    let mut random = Random::new(1306);
+    for t in [1, 2, 4] {
+        let params = draw::params(&mut random, 16, 512, t);
+        let last = 512 / t - 1;
+        for shift in 0..t {
+            let blocks = [last, 0, last / 2, last / 2 + 1, last - 1];
+            for blocks in [blocks.to_vec(), blocks.iter().rev().copied().collect(), (0..=last).rev().collect()] {
+                let shifts = vec![shift; blocks.len()];
+                let selection = Selection { params: params.clone(), blocks, shifts };
+                let columns = selection.columns();
+                assert!(columns.contains(&511) && columns.contains(&0));
+                compare_selection(&mut random, &selection);
+            }
+        }
+        // One more block is none; cut to fewer bits it would be the first.
+        for beyond in [last + 1, last + 2, 512, 65536, 65536 + last] {
+            let selection = Selection { params: params.clone(), blocks: vec![beyond], shifts: vec![0] };
+            assert_eq!(selection.judge(&[t as usize], None).err(), Some(14));
+            roles_give(&selection, t as usize, &Err(14));
+        }
+    }
+}
+
+/// With 256 columns to a block the last shift is 255.
+#[test]
+fn the_greatest_shift() {
+    let mut random = Random::new(1307);
+    let params = draw::params(&mut random, 16, 512, 256);
+    for (blocks, shifts) in [(vec![1], vec![255]), (vec![1, 0], vec![255, 254]), (vec![0, 1], vec![128, 255])] {
+        compare_selection(&mut random, &Selection { params: params.clone(), blocks, shifts });
+    }
+    for shift in [256, 257, 511, 512, 65536 + 255] {
+        let selection = Selection { params: params.clone(), blocks: vec![1], shifts: vec![shift] };
+        roles_give(&selection, 256, &Err(15));
+    }
+}
+
+#[test]
+fn the_longest_blocks() {
+    let mut random = Random::new(1308);
+    let all = vec![GREATEST; 512];
+    let drawn: Vec<Elem> = (0..512).map(|_| high(&mut random)).collect();
+    // All but one equal, so that the sum isn't zero.
+    let mut live = all.clone();
+    live[511] = 0xFF00;
+    let mut other = drawn.clone();
+    other[0] ^= drawn.iter().fold(1, |sum, entry| sum ^ entry);
+    for (a, b) in [(&all, &all), (&all, &drawn), (&drawn, &live), (&live, &all), (&live, &other), (&other, &other)] {
+        let mut out = Lent::marked(512);
+        assert_eq!(library::block::sum(16, a, b, out.slice_mut()), Ok(()));
+        out.assert_holds(block::sum(16, a, b, 512).as_deref().ok());
+        let mut out = Lent::marked(512);
+        assert_eq!(library::block::product(16, a, b, out.slice_mut()), Ok(()));
+        out.assert_holds(block::product(16, a, b, 512).as_deref().ok());
+    }
+    for a in [&live, &other] {
+        let mut out = Lent::marked(512);
+        assert_eq!(library::block::inverse(16, a, out.slice_mut()), Ok(()));
+        out.assert_holds(block::inverse(16, a, 512).as_deref().ok());
+    }
+    // An even number of equal elements has the sum zero.
+    assert_eq!(block::inverse(16, &all, 512), Err(9));
+    let mut out = Lent::marked(512);
+    assert_eq!(library::block::inverse(16, &all, out.slice_mut()), Err(9));
+    out.assert_unchanged();
+}
+
+#[test]
+fn formulas_of_the_longest_blocks() {
+    let mut random = Random::new(1309);
+    let [a, b] = [(); 2].map(|()| (0..512).map(|_| high(&mut random)).collect::<Vec<Elem>>());
+    let blocks = [&a[..], &b, &draw::live_block(&mut random, 16, 512), &[GREATEST; 512]];
+    for text in ["A", "A+B", "A*B+D", "(A+B)*C'", "A/C+D*B"] {
+        let expected = formula::formula(16, text.as_bytes(), blocks, 512);
+        let mut out = Lent::marked(512);
+        assert_eq!(library::block::formula(16, text.as_bytes(), blocks, out.slice_mut()), Ok(()), "{text}");
+        out.assert_holds(expected.as_deref().ok());
+    }
+    let mut out = Lent::marked(512);
+    assert_eq!(library::block::formula(16, b"A/D", blocks, out.slice_mut()), Err(9));
+    out.assert_unchanged();
+}
+
+/// With 256 rows only the zero word is a code word: up to 256 ones are taken away, and their number is told.
+#[test]
+fn the_greatest_count() {
+    let mut random = Random::new(1310);
+    for m in [10, 16] {
+        let params = draw::params(&mut random, m, 512, 256);
+        for count in [255, 256] {
+            comes_back(&params, &[0; 512], &random.places(512, count));
+        }
+        for count in [257, 511, 512] {
+            let received = ones_at(512, &random.places(512, count));
+            repair_gives(&params, &received, Lent::marked(512), &Err(10));
+        }
+    }
+    let params = draw::params(&mut random, 16, 256, 128);
+    comes_back(&params, &[0; 256], &random.places(256, 128));
+}
+
+/// The most turned places of a row, read and ridden.
+#[test]
+fn rows_with_many_turned_places() {
+    let mut random = Random::new(1311);
+    let code = Code::new(&draw::params(&mut random, 10, 512, 32));
+    let (params, row) = (code.params.clone(), Row { gear: 7, lamp: 2 });
+    let sent = code.encode(&rows::message(row, code.k()));
+    writing_gives(&params, row.gear, row.lamp, 512, &Ok(sent.clone()));
+    // The last places are among them, and in the last step one too many.
+    let mut lists = Lists::default();
+    for count in [0, 31, 32, 33] {
+        let places: Vec<usize> = (512 - count..512).collect();
+        if count <= 32 {
+            let read = (row, sent.clone(), count as u32);
+            reading_gives(&params, &turned(&sent, &places), Lent::marked(512), &Ok(read));
+        }
+        lists.push(7, 2, &ones_at(512, &places));
+    }
+    let expected = ride::ride_steps(&Decoder::new(code), &lists);
+    let Ridden { answer: Ok(()), counts: Some([4, 3, _, _]) } = expected else {
+        panic!("{expected:?} has other counts");
+    };
+    ride_gives(&params, &lists, Lent::marked(ride::COUNTS), &expected);
+}
