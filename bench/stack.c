@@ -19,6 +19,10 @@ static char text[(4 * 6 + 1) + (N * 6 + 1) + 1], listing[(6 * 6 + 1) + N * (4 * 
 static size_t text_length;
 static int k;
 
+/* The essence of the signature; N is 2 to the power of VALUES - 1. */
+enum { VALUES = 10 };
+static zov_elem essence[VALUES];
+
 /* A ride whose steps are a row with T bits turned. */
 enum { STEPS = 3 };
 static const uint8_t gears[STEPS] = {1, 1, 1}, lamps[STEPS] = {0, 0, 0};
@@ -46,6 +50,8 @@ static int32_t block_formula(void) {
 }
 static int32_t check(void) { return zov_check(M, N, T, 0, h, N, roots, N, support, N); }
 static int32_t same(void) { return zov_same(M, N, T, 0, h, N, M, N, T, 0, h, N); }
+static int32_t code_essence(void) { return zov_essence(M, h, N, essence, VALUES); }
+static int32_t essence_signature(void) { return zov_signature(M, essence, VALUES, block, N); }
 static int32_t code_roles(void) { return zov_roles(M, N, T, 0, h, N, roles, N); }
 static int32_t word_syndrome(void) { return zov_syndrome(M, N, T, 0, h, N, received, N, syndrome, T); }
 static int32_t encode(void) { return zov_encode(M, N, T, 0, h, N, message, k, word, N); }
@@ -80,10 +86,11 @@ static const struct call {
     {"zov_field_sum", field_sum},     {"zov_field_product", field_product}, {"zov_field_inverse", field_inverse},
     {"zov_block_sum", block_sum},     {"zov_block_product", block_product}, {"zov_block_inverse", block_inverse},
     {"zov_formula", block_formula},
-    {"zov_check", check},             {"zov_same", same},                   {"zov_roles", code_roles},
-    {"zov_syndrome", word_syndrome},  {"zov_encode", encode},               {"zov_message", word_message},
-    {"zov_repair", repair},           {"zov_write_row", write_row},         {"zov_read_row", read_row},
-    {"zov_ride", ride},
+    {"zov_check", check},             {"zov_same", same},
+    {"zov_essence", code_essence},    {"zov_signature", essence_signature},
+    {"zov_roles", code_roles},        {"zov_syndrome", word_syndrome},      {"zov_encode", encode},
+    {"zov_message", word_message},    {"zov_repair", repair},
+    {"zov_write_row", write_row},     {"zov_read_row", read_row},           {"zov_ride", ride},
     {"zov_selection_roles", selection_roles},
     {"zov_selection_syndrome", selection_syndrome},
     {"zov_selection_encode", selection_encode},
@@ -135,6 +142,7 @@ static size_t used(const struct call *call) {
 int main(void) {
     for (int i = 0; i < N; i++)
         h[i] = (zov_elem)zov_field_inverse(M, N ^ i); /* 1/h_i is i with a further bit set: an accepted signature */
+    code_essence();
     for (int i = 0; i < CHOSEN; i++) {
         blocks[i] = N / T - 1 - i;
         shifts[i] = i % T;

@@ -51,7 +51,7 @@ int32_t zov_formula(uint32_t m, const uint8_t *text, size_t text_length, const z
                     const zov_elem *d, size_t d_length, zov_elem *out, size_t out_length);
 
 /* A code's parameters: width m, from 2 to 16; length n, a power of two from 2 to 512; t roots, a power of two from 1 to
- * n / 2; offset omega; signature h of n elements. Refused by 1 to 7; 4 is a zero in h, and is given for codes alone.
+ * n / 2; offset omega; signature h of n elements. Refused by 1 to 7; 4 is a zero in h, and given for signatures alone.
  * zov_check writes n roots and n support elements; the value is 0. */
 int32_t zov_check(uint32_t m, uint32_t n, uint32_t t, uint32_t omega, const zov_elem *h, size_t h_length,
                   zov_elem *roots, size_t roots_length, zov_elem *support, size_t support_length);
@@ -61,6 +61,15 @@ int32_t zov_check(uint32_t m, uint32_t n, uint32_t t, uint32_t omega, const zov_
  * for repair, for rows and for rides, and those for selections, give the same values for both and write the same. */
 int32_t zov_same(uint32_t m1, uint32_t n1, uint32_t t1, uint32_t omega1, const zov_elem *h1, size_t h1_length,
                  uint32_t m2, uint32_t n2, uint32_t t2, uint32_t omega2, const zov_elem *h2, size_t h2_length);
+
+/* The essence is the short form of a signature h of n = 2^e elements, from which h comes back: e + 1 values, 2 to 10 of
+ * them. Value s, for each s below e, is 1/h[2^s] + 1/h[0], and the last is 1/h[0]. The value of both functions is 0.
+ *
+ * zov_essence is refused by 1, 2 (h_length a power of two from 2 to 512, essence_length e + 1), 3, then as a code's
+ * signature is: 4, 5, 6. zov_signature is refused by 1, 2 (essence_length e + 1, from 2 to 10, and h_length 2^e), 3,
+ * then 17 (some of the values, one or more, sum to zero); what it writes is accepted as a code's signature. */
+int32_t zov_essence(uint32_t m, const zov_elem *h, size_t h_length, zov_elem *essence, size_t essence_length);
+int32_t zov_signature(uint32_t m, const zov_elem *essence, size_t essence_length, zov_elem *h, size_t h_length);
 
 /* Words of n bytes, each 0 or 1, of the code with these parameters. Refused by 1 to 7 for the code and the lengths of
  * the word (n) and of a syndrome (t), then by 2 for a message of another length than k, then by 8 (a byte that is

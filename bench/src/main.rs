@@ -20,7 +20,7 @@ type Shape = (u32, u32, u32);
 const SHAPES: [Shape; 7] =
     [(5, 16, 2), (8, 64, 4), (8, 128, 8), (8, 128, 64), (11, 512, 32), (16, 512, 8), (16, 512, 256)];
 
-const CALLS: [&str; 25] = [
+const CALLS: [&str; 27] = [
     "field sum",
     "field product",
     "field inverse",
@@ -30,6 +30,8 @@ const CALLS: [&str; 25] = [
     "formula",
     "check",
     "same",
+    "essence",
+    "signature",
     "roles",
     "syndrome",
     "encode",
@@ -180,6 +182,8 @@ struct Inputs {
     t: usize,
     omega: u32,
     h: Vec<Elem>,
+    /// That of the signature.
+    essence: Vec<Elem>,
     blocks: Vec<u32>,
     shifts: Vec<u32>,
     whole: Words,
@@ -258,6 +262,8 @@ impl Inputs {
         let h = signature(&mut random, m, n);
         let omega = random.below(1 << m) as u32;
         let code = Code { m, n, t, omega, h: &h };
+        let mut essence = vec![0; n.ilog2() as usize + 1];
+        zovunelith::essence(m, &h, &mut essence).expect("an accepted signature");
         let count = n / t;
         // The whole code is the selection of all its blocks.
         let all: Vec<u32> = (0..count).collect();
@@ -269,7 +275,7 @@ impl Inputs {
         let entries: Vec<u32> = h.iter().map(|&entry| entry.into()).collect();
         let text = (line(&[m, n, t, omega]) + &line(&entries)).into_bytes();
         let field = rival::Field::new(m);
-        Inputs { m, n: n as usize, t: t as usize, omega, h, blocks, shifts, whole, selected, text, field }
+        Inputs { m, n: n as usize, t: t as usize, omega, h, essence, blocks, shifts, whole, selected, text, field }
     }
 
     fn code(&self) -> Code<'_> {
@@ -291,7 +297,7 @@ impl Inputs {
         }
         let code = self.code();
         let (m, n, a, b) = (self.m, self.n, u32::from(self.h[0]), u32::from(self.h[1]));
-        let (mut out, mut second) = (vec![0; n], vec![0; n]);
+        let (mut out, mut second, mut short) = (vec![0; n], vec![0; n], vec![0; self.essence.len()]);
         Some(match call {
             "field sum" => Box::new(move || keep(field::sum(black_box(m), a, b))),
             "field product" => Box::new(move || keep(field::product(black_box(m), a, b))),
@@ -303,6 +309,8 @@ impl Inputs {
             "formula" => Box::new(move || block::formula(m, FORMULA, [&self.h; 4], &mut out).expect("inverses")),
             "check" => Box::new(move || code.check(&mut out, &mut second).expect("accepted")),
             "same" => Box::new(move || keep(code.same(&code).expect("accepted"))),
+            "essence" => Box::new(move || zovunelith::essence(m, &self.h, &mut short).expect("accepted")),
+            "signature" => Box::new(move || zovunelith::signature(m, &self.essence, &mut out).expect("an essence")),
             "step of a ride" => {
                 self.whole.row_received.as_deref()?;
                 let [gears, lamps] = [1, 0].map(|number| vec![number; LONGEST_RIDE]);
@@ -329,7 +337,7 @@ impl Inputs {
             return rival_word_call(begin, &self.selected, call);
         }
         let (n, a, b) = (self.n, self.h[0], self.h[1]);
-        let (mut out, mut inverses) = (vec![0; n], vec![0; n]);
+        let (mut out, mut inverses, mut short) = (vec![0; n], vec![0; n], vec![0; self.essence.len()]);
         Some(match call {
             "field sum" => Box::new(move || keep(black_box(a) ^ b)),
             "field product" => Box::new(move || keep(self.field.product(black_box(a), b))),
@@ -348,6 +356,10 @@ impl Inputs {
                 check(&mut inverses);
                 let card = (self.m, code.t, code.omega, code.h);
                 black_box(card == black_box(card));
+            }),
+            "essence" => Box::new(move || rival::essence(&self.field, &self.h, &mut short).expect("accepted")),
+            "signature" => Box::new(move || {
+                rival::signature(&self.field, &self.essence, &mut out).expect("an essence");
             }),
             "step of a ride" => {
                 self.whole.row_received.as_deref()?;

@@ -198,6 +198,79 @@ impl<'a> Formula<'a> {
     }
 }
 
+/// If a signature is accepted as a code's, its inverses are at the front of `inverses`.
+fn check_signature(field: &Field, h: &[Elem], inverses: &mut [Elem]) -> Option<()> {
+    let n = h.len();
+    if !n.is_power_of_two() || !(2..=LONGEST).contains(&n) {
+        return None;
+    }
+    if h.iter().any(|&entry| entry == 0 || !field.has(entry)) {
+        return None;
+    }
+    let inverses = &mut inverses[..n];
+    for (inverse, &entry) in inverses.iter_mut().zip(h) {
+        *inverse = field.reciprocal(entry);
+    }
+    for i in 0..n {
+        for j in 0..n {
+            if inverses[i ^ j] != inverses[i] ^ inverses[j] ^ inverses[0] {
+                return None;
+            }
+        }
+    }
+    let distinct = (1..n).all(|i| h[i] != h[0]);
+    distinct.then_some(())
+}
+
+/// The most values of an essence.
+const MOST_VALUES: usize = LONGEST.ilog2() as usize + 1;
+
+/// The essence of a signature; none where the product's call is refused.
+pub fn essence(field: &Field, h: &[Elem], out: &mut [Elem]) -> Option<()> {
+    let mut inverses = [0; LONGEST];
+    check_signature(field, h, &mut inverses)?;
+    let (last, others) = out.split_last_mut()?;
+    if others.len() != h.len().ilog2() as usize {
+        return None;
+    }
+    for (s, value) in others.iter_mut().enumerate() {
+        *value = inverses[1 << s] ^ inverses[0];
+    }
+    *last = inverses[0];
+    Some(())
+}
+
+/// Whether no choice of the values, of one or more, sums to zero. There are at most `MOST_VALUES`.
+fn independent(values: &[Elem]) -> bool {
+    let mut rows = [0; MOST_VALUES];
+    for (count, &value) in values.iter().enumerate() {
+        // The lesser of both has a zero where the row has its leading one. So have the rows after that row.
+        rows[count] = rows[..count].iter().fold(value, |rest, row| rest.min(rest ^ row));
+        if rows[count] == 0 {
+            return false;
+        }
+    }
+    true
+}
+
+/// The signature of an essence; none where the product's call is refused.
+pub fn signature(field: &Field, essence: &[Elem], out: &mut [Elem]) -> Option<()> {
+    let (&last, others) = essence.split_last()?;
+    if !(2..=MOST_VALUES).contains(&essence.len()) || out.len() != 1 << others.len() {
+        return None;
+    }
+    if essence.iter().any(|&value| !field.has(value)) || !independent(essence) {
+        return None;
+    }
+    out[0] = last;
+    for (s, value) in others.iter().enumerate() {
+        let (sums, further) = out.split_at_mut(1 << s);
+        further.iter_mut().zip(sums).for_each(|(further, sum)| *further = *sum ^ value);
+    }
+    out.iter_mut().for_each(|entry| *entry = field.reciprocal(*entry));
+    Some(())
+}
+
 /// A code that is checked anew by each call, as the product's calls do.
 #[derive(Clone, Copy)]
 pub struct Code<'a> {
@@ -210,26 +283,10 @@ pub struct Code<'a> {
 impl<'a> Code<'a> {
     /// If the code is accepted, the inverses of its signature are at the front of `inverses`.
     pub fn check(&self, inverses: &mut [Elem]) -> Option<()> {
-        let n = self.h.len();
-        if !n.is_power_of_two() || n > LONGEST || !self.t.is_power_of_two() || self.t > n / 2 {
+        if !self.t.is_power_of_two() || self.t > self.h.len() / 2 {
             return None;
         }
-        if self.h.iter().any(|&entry| entry == 0 || !self.field.has(entry)) {
-            return None;
-        }
-        let inverses = &mut inverses[..n];
-        for (inverse, &entry) in inverses.iter_mut().zip(self.h) {
-            *inverse = self.field.reciprocal(entry);
-        }
-        for i in 0..n {
-            for j in 0..n {
-                if inverses[i ^ j] != inverses[i] ^ inverses[j] ^ inverses[0] {
-                    return None;
-                }
-            }
-        }
-        let distinct = (1..n).all(|i| self.h[i] != self.h[0]);
-        distinct.then_some(())
+        check_signature(self.field, self.h, inverses)
     }
 
     /// The words over all columns.

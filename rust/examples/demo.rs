@@ -1,5 +1,5 @@
-//! What the proved library does for a card: its sheet, a row sent and repaired, a word that is too far, and every row
-//! with every one bit turned and, unless the words are long, every two.
+//! What the proved library does for a card: its sheet and its essence, a row sent and repaired, a word that is too far,
+//! and every row with every one bit turned and, unless the words are long, every two.
 //!
 //!     bash demo              card T, the toy example
 //!     bash demo SHEET        the card on a sheet
@@ -33,6 +33,14 @@ fn named(places: &[usize]) -> String {
         Some((last, first)) => format!("{} and {last}", first.join(", ")),
         None => "none".to_string(),
     }
+}
+
+/// The short form of the signature, from which it comes back.
+fn show_essence(code: &Code) {
+    let mut essence = vec![0; code.n.ilog2() as usize + 1];
+    zovunelith::essence(code.m, code.h, &mut essence).expect("an accepted signature");
+    println!("Its essence: 1/h at 1, 2, 4, .. plus 1/h_0, then 1/h_0.");
+    println!("{}", essence.iter().map(|value| format!("{value:>6}")).collect::<String>());
 }
 
 /// Writes a row, which the card has room for.
@@ -112,6 +120,7 @@ fn main() {
     print!("{}", String::from_utf8_lossy(&text));
     println!("Its listing: m, n, t, offset, rank, k; then column, h, support, and 1 for a message column.");
     print!("{}", card.listing);
+    show_essence(&card.code());
     println!();
 
     if !card.carries_rows() {

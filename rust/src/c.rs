@@ -69,6 +69,8 @@ extern "C" {
         h2: *const Elem,
         h2_length: usize,
     ) -> i32;
+    pub fn zov_essence(m: u32, h: *const Elem, h_length: usize, essence: *mut Elem, essence_length: usize) -> i32;
+    pub fn zov_signature(m: u32, essence: *const Elem, essence_length: usize, h: *mut Elem, h_length: usize) -> i32;
     pub fn zov_roles(
         m: u32,
         n: u32,

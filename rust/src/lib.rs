@@ -6,7 +6,7 @@
 //! A [`Code`] is a card: any values may stand in it, and each call refuses by a [`Refusal`] what breaks a rule. Buffers
 //! are lent by the caller and are left alone by a call that is refused, with one exception: a ride that ends by 8 or 11
 //! writes the counts up to there ([`Code::ride`], which also takes room to work in). A [`Selection`] has the calls on
-//! words for some blocks of a code.
+//! words for some blocks of a code. A signature has a short form, its [`essence`].
 //!
 //! ```
 //! use zovunelith::{Code, Lamp, Refusal, Row};
@@ -32,6 +32,7 @@
 pub mod block;
 mod c;
 mod code;
+mod essence;
 pub mod field;
 mod refusal;
 mod ride;
@@ -41,6 +42,7 @@ pub mod sheet;
 mod words;
 
 pub use code::Code;
+pub use essence::{essence, signature};
 pub use refusal::Refusal;
 pub use ride::{Counts, Step, LONGEST_RIDE};
 pub use row::{Lamp, Reading, Row};

@@ -8,15 +8,16 @@ use core::fmt;
 pub enum Refusal {
     /// 1: the width m is not from 2 to 16.
     Width = 1,
-    /// 2: n, a block's length, the number of a ride's steps or a lent buffer's length is not what is asked for.
+    /// 2: n, the length of a block or an essence, the number of a ride's steps or a lent buffer's length is not what is
+    /// asked for.
     Length = 2,
     /// 3: an element or the offset is 2^m or more.
     Stranger = 3,
-    /// 4: a zero in a code's signature.
+    /// 4: a zero in a signature.
     Blank = 4,
     /// 5: the rule for 1/h fails for some i and j.
     Crossed = 5,
-    /// 6: two equal entries in a code's signature.
+    /// 6: two equal entries in a signature.
     Twin = 6,
     /// 7: t is not a power of two from 1 to n/2.
     Rows = 7,
@@ -38,12 +39,14 @@ pub enum Refusal {
     Shift = 15,
     /// 16: a text outside the rules of block formulas, or a letter in it with no block lent.
     Formula = 16,
+    /// 17: some of an essence's values, one or more, sum to zero.
+    Dependent = 17,
 }
 
 /// Every refusal, with its word on the bench and its meaning.
-const TABLE: [(Refusal, &str, &str); 16] = [
+const TABLE: [(Refusal, &str, &str); 17] = [
     (Refusal::Width, "width", "m outside 2 to 16"),
-    (Refusal::Length, "length", "n, a block, a ride or a lent buffer has another length than is asked for"),
+    (Refusal::Length, "length", "n, a block, an essence, a ride or a lent buffer has another length than is asked for"),
     (Refusal::Stranger, "stranger", "an element or offset of 2^m or more"),
     (Refusal::Blank, "blank", "a zero in a signature"),
     (Refusal::Crossed, "crossed", "the rule for 1/h fails for some i and j"),
@@ -58,6 +61,7 @@ const TABLE: [(Refusal, &str, &str); 16] = [
     (Refusal::NoSuchBlock, "no such block", "a block number of n/t or more, or one named twice"),
     (Refusal::Shift, "shift", "a shift of t or more"),
     (Refusal::Formula, "formula", "text outside the rules of formulas, or a letter with no block lent"),
+    (Refusal::Dependent, "dependent", "a non-empty choice of an essence's values sums to zero"),
 ];
 
 impl Refusal {
@@ -66,7 +70,7 @@ impl Refusal {
         TABLE[number as usize - 1].0
     }
 
-    /// Its number, from 1 to 16.
+    /// Its number, from 1 to 17.
     pub fn number(self) -> u32 {
         self as u32
     }

@@ -2,6 +2,7 @@
 
 use crate::random::Random;
 use crate::reference::columns::{block_count, Selection};
+use crate::reference::essence::is_sum;
 use crate::reference::field;
 use crate::reference::params::{Params, Shape, LENGTHS, ROWS};
 use crate::reference::words::Code;
@@ -16,6 +17,11 @@ pub fn shapes() -> Vec<Shape> {
         }
     }
     shapes
+}
+
+/// The m and n among them, for which a signature can be accepted.
+pub fn signature_shapes() -> Vec<(u32, u32)> {
+    shapes().into_iter().filter(|shape| shape.2 == 1).map(|(m, n, _)| (m, n)).collect()
 }
 
 /// Whether a code is over one of the small fields, for which everything is tried that can be.
@@ -92,6 +98,13 @@ pub fn block(random: &mut Random, m: u32, s: usize) -> Vec<Elem> {
     (0..s).map(|_| element(random, m)).collect()
 }
 
+/// Every list of this many elements there is.
+pub fn every_list(m: u32, length: usize) -> impl Iterator<Item = Vec<Elem>> {
+    let q = field::size(m) as usize;
+    let nth = move |index: usize| (0..length as u32).map(|i| (index / q.pow(i) % q) as Elem).collect();
+    (0..q.pow(length as u32)).map(nth)
+}
+
 /// A block whose elements have this sum.
 fn block_of_sum(random: &mut Random, m: u32, s: usize, sum: Elem) -> Vec<Elem> {
     let mut block = block(random, m, s);
@@ -111,9 +124,9 @@ pub fn live_block(random: &mut Random, m: u32, s: usize) -> Vec<Elem> {
     block_of_sum(random, m, s, sum)
 }
 
-/// The sum of those of `steps` that the bits of i choose.
-fn chosen(steps: &[Elem], i: usize) -> Elem {
-    (0..steps.len()).filter(|&bit| i >> bit & 1 == 1).fold(0, |sum, bit| sum ^ steps[bit])
+/// The sum of those of `values` that the bits of `choice` choose.
+pub fn chosen(values: &[Elem], choice: usize) -> Elem {
+    (0..values.len()).filter(|&bit| choice >> bit & 1 == 1).fold(0, |sum, bit| sum ^ values[bit])
 }
 
 /// The signature whose 1/h_i is `first` plus those of `steps` that the bits of i choose. It keeps the rule for 1/h
@@ -123,17 +136,8 @@ pub fn signature_from(m: u32, first: Elem, steps: &[Elem]) -> Vec<Elem> {
     (0..1 << steps.len()).map(entry).collect()
 }
 
-/// Whether an element is a sum of some of `values`.
-fn is_sum(values: &[Elem], element: Elem) -> bool {
-    // Each value is first freed of the highest bits of those before it; then so is the element of all of them.
-    let free = |freed: &[Elem], element: Elem| freed.iter().fold(element, |left, value| left.min(left ^ value));
-    let mut freed = Vec::new();
-    values.iter().for_each(|&value| freed.push(free(&freed, value)));
-    free(&freed, element) == 0
-}
-
 /// An element that is no sum of some of `values`, of which there are fewer than m.
-fn outside(random: &mut Random, m: u32, values: &[Elem]) -> Elem {
+pub fn outside(random: &mut Random, m: u32, values: &[Elem]) -> Elem {
     loop {
         let drawn = element(random, m);
         if !is_sum(values, drawn) {
@@ -142,31 +146,31 @@ fn outside(random: &mut Random, m: u32, values: &[Elem]) -> Elem {
     }
 }
 
-/// Steps of which no two choices have the same sum, at most m.
-fn independent_steps(random: &mut Random, m: u32, count: u32) -> Vec<Elem> {
-    let mut steps = Vec::new();
+/// Values of which no two choices have the same sum, at most m.
+pub fn independent(random: &mut Random, m: u32, count: u32) -> Vec<Elem> {
+    let mut values = Vec::new();
     for _ in 0..count {
-        steps.push(outside(random, m, &steps));
+        values.push(outside(random, m, &values));
     }
-    steps
+    values
 }
 
 /// An accepted signature; n is at most q/2.
 pub fn signature(random: &mut Random, m: u32, n: u32) -> Vec<Elem> {
-    let steps = independent_steps(random, m, n.ilog2());
+    let steps = independent(random, m, n.ilog2());
     let first = outside(random, m, &steps);
     signature_from(m, first, &steps)
 }
 
 /// A signature with a zero at this place that keeps every other rule, if 0 stands for 1/0; n is at most q.
 pub fn blank_signature(random: &mut Random, m: u32, n: u32, place: usize) -> Vec<Elem> {
-    let steps = independent_steps(random, m, n.ilog2());
+    let steps = independent(random, m, n.ilog2());
     signature_from(m, chosen(&steps, place), &steps)
 }
 
 /// A signature with equal entries that keeps the rule for 1/h and has no zero, of any length.
 pub fn twin_signature(random: &mut Random, m: u32, n: u32) -> Vec<Elem> {
-    let mut steps = independent_steps(random, m, n.ilog2().min(m - 1) - 1);
+    let mut steps = independent(random, m, n.ilog2().min(m - 1) - 1);
     let first = outside(random, m, &steps);
     // The steps that are left are sums of the others, so two choices of steps agree.
     while steps.len() < n.ilog2() as usize {
@@ -382,16 +386,6 @@ mod tests {
             let large = |shape: &Shape| !is_small(shape) && (shape.1, shape.2) == (n, t);
             assert!(fewer.iter().any(large), "n {n}, t {t}");
             assert!(n < 256 || fewer.iter().any(|shape| (shape.0, shape.1) == (m, n)), "m {m}, n {n}");
-        }
-    }
-
-    #[test]
-    fn sums_of_some_values() {
-        let mut random = Random::new(23);
-        for _ in 0..200 {
-            let values = block(&mut random, 5, 3);
-            let sums: Vec<Elem> = (0..8).map(|choice| chosen(&values, choice)).collect();
-            assert!((0..32).all(|element| is_sum(&values, element) == sums.contains(&element)), "{values:?}");
         }
     }
 }

@@ -69,6 +69,20 @@ pub mod params {
     }
 }
 
+/// The essence of a signature, and the signature of an essence.
+pub mod essence {
+    use super::numbered;
+    use zovunelith::Elem;
+
+    pub fn essence(m: u32, h: &[Elem], out: &mut [Elem]) -> Result<(), u32> {
+        numbered(zovunelith::essence(m, h, out))
+    }
+
+    pub fn signature(m: u32, essence: &[Elem], out: &mut [Elem]) -> Result<(), u32> {
+        numbered(zovunelith::signature(m, essence, out))
+    }
+}
+
 /// Makes a call on a whole code, and sees that it leaves the signature alone.
 macro_rules! call_on_code {
     ($params:expr, $code:ident => $call:expr) => {{

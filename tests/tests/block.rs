@@ -1,7 +1,9 @@
 //! Sum, product and inverse of dyadic blocks, against their matrices.
 
 use zovunelith_tests::canary::Lent;
-use zovunelith_tests::draw::{block, dead_block, live_block, strange_entries, BAD_BLOCK_LENGTHS, BAD_WIDTHS};
+use zovunelith_tests::draw::{
+    block, dead_block, every_list, live_block, strange_entries, BAD_BLOCK_LENGTHS, BAD_WIDTHS,
+};
 use zovunelith_tests::library::block as library;
 use zovunelith_tests::random::Random;
 use zovunelith_tests::reference::{block as reference, field};
@@ -111,14 +113,12 @@ fn inverses_of_every_length_and_width() {
 #[test]
 fn all_small_blocks() {
     for (m, s) in [(2, 1), (3, 1), (2, 2), (3, 2), (2, 4)] {
-        let q = field::size(m) as usize;
-        let nth = |index: usize| (0..s).map(|i| (index / q.pow(i) % q) as Elem).collect::<Vec<Elem>>();
-        for a in (0..q.pow(s)).map(nth) {
-            let inverse = compare(Call::Inverse, m, &a, &[], s as usize);
+        for a in every_list(m, s) {
+            let inverse = compare(Call::Inverse, m, &a, &[], s);
             assert_eq!(inverse.is_ok(), a.iter().fold(0, |sum, entry| sum ^ entry) != 0, "width {m}, block {a:?}");
-            for b in (0..q.pow(s)).map(nth) {
-                compare(Call::Sum, m, &a, &b, s as usize).expect("a sum");
-                compare(Call::Product, m, &a, &b, s as usize).expect("a product");
+            for b in every_list(m, s) {
+                compare(Call::Sum, m, &a, &b, s).expect("a sum");
+                compare(Call::Product, m, &a, &b, s).expect("a product");
             }
         }
     }

@@ -150,9 +150,7 @@ fn every_number_of_rows() {
 #[test]
 fn all_small_signatures() {
     for (m, n) in [(2, 2), (2, 4), (3, 2), (3, 4), (4, 2)] {
-        let q = field::size(m) as usize;
-        for index in 0..q.pow(n) {
-            let h: Vec<Elem> = (0..n).map(|i| (index / q.pow(i) % q) as Elem).collect();
+        for h in draw::every_list(m, n) {
             let answer = compare(&small(m, 1, &h));
             assert_eq!(answer.is_ok(), reference::cauchy_sequences(m, &h).is_some(), "width {m}, {h:?}");
         }
@@ -274,10 +272,7 @@ fn zeros_at_every_place() {
 fn more_than_half_the_field_is_never_accepted() {
     let mut random = Random::new(307);
     for (m, n) in [(2, 4), (2, 8), (3, 8)] {
-        let q = field::size(m) as usize;
-        let e = u32::ilog2(n);
-        for index in 0..q.pow(e + 1) {
-            let values: Vec<Elem> = (0..=e).map(|i| (index / q.pow(i) % q) as Elem).collect();
+        for values in draw::every_list(m, u32::ilog2(n) as usize + 1) {
             let params = small(m, 0, &draw::signature_from(m, values[0], &values[1..]));
             assert!(compare(&params).is_err(), "{params:?}");
         }

@@ -16,7 +16,7 @@ use zovunelith_tests::reference::repair::Decoder;
 use zovunelith_tests::reference::ride::{self, Lists, Ridden};
 use zovunelith_tests::reference::rows::{self, Row};
 use zovunelith_tests::reference::words::Code;
-use zovunelith_tests::reference::{block, field, formula, params, sheet};
+use zovunelith_tests::reference::{block, essence, field, formula, params, sheet};
 use zovunelith_tests::Elem;
 
 /// The greatest element of the widest field.
@@ -135,6 +135,58 @@ fn codes_that_differ_in_the_upper_byte() {
         let second: [Elem; 2] = [1, 2 ^ 1 << bit];
         assert_eq!(library::params::same((16, 2, 1, 0), &first, (16, 2, 1, 0), &second), Ok(false));
         assert_eq!(library::params::check((16, 2, 1, 0), &[2, 2 ^ 1 << bit], &mut [0; 2], &mut [0; 2]), Ok(()));
+    }
+}
+
+/// Compares both conversions of an essence of the widest field.
+#[track_caller]
+fn compare_essence(values: &[Elem]) -> Vec<Elem> {
+    let n = 1 << (values.len() - 1);
+    let expected = essence::signature(16, values, n).expect("independent");
+    let mut h = Lent::marked(n);
+    assert_eq!(library::essence::signature(16, values, h.slice_mut()), Ok(()), "{values:?}");
+    h.assert_holds(Some(&expected));
+    let mut back = Lent::marked(values.len());
+    assert_eq!(library::essence::essence(16, &expected, back.slice_mut()), Ok(()), "{values:?}");
+    back.assert_holds(Some(values));
+    expected
+}
+
+/// The longest essences with the greatest value and the greatest entry at every place.
+#[test]
+fn the_greatest_value() {
+    let mut random = Random::new(1312);
+    for place in 0..10 {
+        let mut values = vec![GREATEST];
+        while values.len() < 10 {
+            values.push(draw::outside(&mut random, 16, &values));
+        }
+        values.swap(0, place);
+        compare_essence(&values);
+    }
+    for place in PLACES {
+        let code = code_with_entry(&mut random, 512, 1, place, GREATEST);
+        let values = essence::essence(16, &code.h, 10).expect("accepted");
+        assert_eq!(compare_essence(&values), code.h);
+    }
+}
+
+/// Values that without the upper byte would be equal, be zero or sum to zero, and some that do sum to zero with it.
+#[test]
+fn essences_that_need_the_upper_byte() {
+    let mut random = Random::new(1313);
+    for bit in 8..16 {
+        let value = high(&mut random);
+        compare_essence(&[value, value ^ 1 << bit]);
+        compare_essence(&[1 << bit, value | 1]);
+    }
+    compare_essence(&(6..16).map(|bit| 1 << bit).collect::<Vec<Elem>>());
+    compare_essence(&[0x0101, 0x0202, 0x0403]);
+    for values in [[0x8000, 0x7FFF, GREATEST], [0xFF00, 0x00FF, GREATEST], [0x0101, 0x0302, 0x0203]] {
+        assert_eq!(essence::signature(16, &values, 4), Err(17));
+        let mut h = Lent::marked(4);
+        assert_eq!(library::essence::signature(16, &values, h.slice_mut()), Err(17), "{values:?}");
+        h.assert_unchanged();
     }
 }
 

@@ -1,9 +1,9 @@
 -- Laws of bits: numbers below two as factors, and the bits of a number.
-use mathlib.Core.Path.{_≡_, sym, ap, ap₂, _∙_}
+use mathlib.Core.Path.{_≡_, sym, ap, ap₂, _∙_, subst}
 use Prim.Native.Nat.{ℕ, zero, suc, _+_, _*_, _/_, _%_, _^_, _<_, suc-le-suc}
 use native.Mathlib.Nat.{zero-mul, one-mul, mod-lt, div-eq-of-lt, zero-lt-suc, add-zero, zero-div, div-one, pow-suc}
 use native.Mathlib.Omega.{arith}
-use lib.Pow.{shr-shr}
+use lib.Pow.{pow-pos, shr-shr}
 use Rattle.algebra.specs.Xor.{_⊕_}
 use Rattle.algebra.specs.XorLaws.{xor, ⊕-self, ⊕-zero, zero-⊕, ⊕-block, ⊕-div, ⊕-mod}
 use Rattle.algebra.specs.Bits.{bitAt}
@@ -16,6 +16,12 @@ bit-cases P p0 p1 b = below (b % 2) (mod-lt b (zero-lt-suc 1))
     below zero h = p0
     below (suc zero) h = p1
     below (suc (suc x)) h = absurd (omega arith)
+
+-- a bit times a number of k bits has k bits
+pub bit-times-lt : (k b x : ℕ) → b < 2 → x < 2 ^ k → b * x < 2 ^ k
+bit-times-lt k zero x hb hx = subst (λ (y : ℕ). y < 2 ^ k) (sym (zero-mul x)) (pow-pos k)
+bit-times-lt k (suc zero) x hb hx = subst (λ (y : ℕ). y < 2 ^ k) (sym (one-mul x)) hx
+bit-times-lt k (suc (suc b)) x hb hx = absurd (omega arith)
 
 pub bit-⊕ : (b x y : ℕ) → (b % 2) * (x ⊕ y) ≡ (b % 2) * x ⊕ (b % 2) * y
 bit-⊕ b x y = bit-cases (λ (s : ℕ). s * (x ⊕ y) ≡ s * x ⊕ s * y) (simp (zero-mul, xor)) (simp one-mul) b

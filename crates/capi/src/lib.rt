@@ -4,6 +4,7 @@ pub mod checking;
 pub mod coding;
 pub mod dyadics;
 pub mod elements;
+pub mod essences;
 pub mod gear_rows;
 pub mod listings;
 pub mod repairing;

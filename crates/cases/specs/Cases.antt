@@ -2,7 +2,7 @@
 use mathlib.Core.Path.{_≡_, refl}
 use mathlib.Core.Bool.{Bool, true, _&&_}
 use mathlib.Core.List.{List, [], _∷_}
-use Prim.Native.Nat.{ℕ}
+use Prim.Native.Nat.{ℕ, suc, _^_}
 use lib.ListN.{length}
 use Rattle.algebra.specs.All.{all, some}
 use Rattle.algebra.specs.Flags.{both-true}
@@ -27,6 +27,10 @@ use Rattle.dyadic.specs.Block.{blockProduct, total, quotient, blockInverse}
 use Rattle.dyadic.specs.Invertible.{isInvertible}
 use Rattle.params.specs.declared.Parameters.{Parameters}
 use Rattle.params.specs.Code.{codeFault, isLength, isRootCount, shapeRules, codeRules}
+use Rattle.essence.specs.Choices.{choiceSum, vanishes, dependent}
+use Rattle.essence.specs.Essence.{essenceFrom, essenceOf, chosenAt, signatureOf as signatureFrom}
+use Rattle.essence.specs.Answers.{isValueCount, shapeRules as essenceShapeRules, essenceRules, essenceFault, essenceAnswer, essenceAfter}
+use Rattle.essence.specs.Answers.{valueRules, signatureFault, signatureAnswer, signatureAfter}
 use Rattle.codes.specs.Answers.{checkFault, checkAnswer, supportAfter}
 use Rattle.signature.specs.Tests.{signatureRules, inverseAt, nonzero, noZero, pairKept, affine, linear}
 use Rattle.signature.specs.Signature.{rootAt, supportAt}
@@ -83,6 +87,19 @@ signatureOf : ℕ → List ℕ → List ℕ
 signatureOf m h =
     let lent = marked (length h) in outcome (checkAnswer (card m (length h)) h lent lent) (supportAfter (card m (length h)) h lent lent)
 
+-- the essence of a signature of 2^e entries, and the signature of an essence with as much room
+essenceFor : ℕ → ℕ → List ℕ → List ℕ
+essenceFor m e h =
+    let lent = marked (suc e) in outcome (essenceAnswer m h lent) (essenceAfter m h lent)
+
+signatureFor : ℕ → ℕ → List ℕ → List ℕ
+signatureFor m e v =
+    let lent = marked (2 ^ e) in outcome (signatureAnswer m v lent) (signatureAfter m v lent)
+
+-- card T
+signatureT : List ℕ
+signatureT = 12 ∷ 8 ∷ 10 ∷ 22 ∷ 26 ∷ 9 ∷ 16 ∷ 21 ∷ 14 ∷ 5 ∷ 17 ∷ 4 ∷ 30 ∷ 23 ∷ 25 ∷ 31 ∷ []
+
 -- card A
 signatureA : List ℕ
 signatureA = 7 ∷ 2 ∷ 3 ∷ 4 ∷ []
@@ -122,6 +139,9 @@ table =
     ∷ is (encodingA (1 ∷ [])) (0 ∷ 1 ∷ 0 ∷ 1 ∷ 1 ∷ [])
     ∷ is (repairA (1 ∷ 0 ∷ 1 ∷ 0 ∷ [])) (0 ∷ 1 ∷ 1 ∷ 0 ∷ 1 ∷ 1 ∷ [])
     ∷ is (repairA (1 ∷ 1 ∷ 0 ∷ 0 ∷ [])) (10 ∷ marked 4)
+    -- "For card T it is 17 30 18 1 7."
+    ∷ is (essenceFor 5 4 signatureT) (0 ∷ 17 ∷ 30 ∷ 18 ∷ 1 ∷ 7 ∷ [])
+    ∷ is (signatureFor 5 4 (17 ∷ 30 ∷ 18 ∷ 1 ∷ 7 ∷ [])) (0 ∷ signatureT)
     ∷ []
 
 -- ---- one proof over its rows
@@ -141,7 +161,7 @@ agreeing (c ∷ cs) e =
     let (here, rest) = both-true (sameList (c .given) (c .said)) (agree cs) e in (sameList-is (c .given) (c .said) .0 here, agreeing cs rest)
 
 table-agrees : agree table ≡ true
-unfolding agree table is element outcome recovery marked card blockProductOf blockInverseOf signatureOf signatureA encodingA repairA elementRules elementFault pairFault productAnswer inverseAnswer polyProduct cutBack remainder product squares inverse fault unless-refused isWidth isElement words word allElements isPower sizeRules blockRules blockPairRules inverseRules blockPairFault blockInverseFault blockProductAnswer blockProductAfter blockInverseAnswer blockInverseAfter blockProduct total quotient blockInverse isInvertible codeFault checkFault checkAnswer supportAfter isLength isRootCount shapeRules signatureRules codeRules rootAt supportAt inverseAt nonzero noZero pairKept affine linear distinct messageRules encodeFault encodeAnswer encodeAfter count chosen wordOf found sameList sameEntry isSumOf isSum isMessageColumn dimension messageOf encodingOf whole columnsOf settingRules allBits parityAt held syndromeAt isCodeWord wordRules turnedCount repairFault repairAnswer repairAfter distance isNear isRepairable differs repairedOf all some bitAt sum tabulate _⊕_
+unfolding agree table is element outcome recovery marked card blockProductOf blockInverseOf signatureOf essenceFor signatureFor signatureT signatureA encodingA repairA elementRules elementFault pairFault productAnswer inverseAnswer polyProduct cutBack remainder product squares inverse fault unless-refused isWidth isElement words word allElements isPower sizeRules blockRules blockPairRules inverseRules blockPairFault blockInverseFault blockProductAnswer blockProductAfter blockInverseAnswer blockInverseAfter blockProduct total quotient blockInverse isInvertible choiceSum vanishes dependent essenceFrom essenceOf chosenAt signatureFrom isValueCount essenceShapeRules essenceRules essenceFault essenceAnswer essenceAfter valueRules signatureFault signatureAnswer signatureAfter codeFault checkFault checkAnswer supportAfter isLength isRootCount shapeRules signatureRules codeRules rootAt supportAt inverseAt nonzero noZero pairKept affine linear distinct messageRules encodeFault encodeAnswer encodeAfter count chosen wordOf found sameList sameEntry isSumOf isSum isMessageColumn dimension messageOf encodingOf whole columnsOf settingRules allBits parityAt held syndromeAt isCodeWord wordRules turnedCount repairFault repairAnswer repairAfter distance isNear isRepairable differs repairedOf all some bitAt sum tabulate _⊕_
 table-agrees = refl
 
 pub table-holds : Hold table

@@ -41,6 +41,8 @@ use Rattle.formula.specs.Answers.{isRead, readingExists, lentRules, readingRule
 use Rattle.params.specs.declared.Parameters.{Parameters}
 use Rattle.params.specs.Code.{shapeRules, codeRules, codeFault}
 use Rattle.signature.specs.Tests.{signatureRules}
+use Rattle.essence.specs.Answers.{shapeRules as essenceShapeRules, essenceRules, essenceFault, essenceAnswer, essenceAfter}
+use Rattle.essence.specs.Answers.{valueRules, signatureFault, signatureAnswer, signatureAfter}
 use Rattle.codes.specs.declared.Sameness.the-variants.{Refused as NotCompared}
 use Rattle.codes.specs.Answers.{checkFault, checkAnswer, rootsAfter, supportAfter, lowest as lower, compared, sameFault, sameAnswer}
 use Rattle.codes.specs.Lowest.{lowest-none, lowest-is}
@@ -165,6 +167,26 @@ module _ (m : ℕ) (β : Lent) (reading : TextReading) (out : List ℕ) where
   formula-refuses =
       refuses-in-order Refused Done done-apart same-outcome
       (lentRules m β (length out) ∷ ((16 unless isRead reading) ∷ []) ∷ ((9 unless readingExists m β reading) ∷ []) ∷ []) refl
+
+-- ---- signatures and their essences
+
+module _ (m : ℕ) (h out : List ℕ) where
+  pub essence-unchanged : {k : ℕ} → essenceAnswer m h out ≡ Refused k → essenceAfter m h out ≡ out
+  unfolding essenceAnswer essenceAfter
+  essence-unchanged e = refused-leaves Refused Done done-apart (essenceFault m h (length out)) out _ e
+
+  pub essence-refuses : Refuses (essenceAnswer m h out) Refused Done (essenceRules m h (length out))
+  unfolding essenceAnswer essenceFault essenceRules essenceShapeRules signatureRules
+  essence-refuses = refuses Refused Done done-apart same-outcome (essenceRules m h (length out)) refl
+
+module _ (m : ℕ) (v out : List ℕ) where
+  pub signature-unchanged : {k : ℕ} → signatureAnswer m v out ≡ Refused k → signatureAfter m v out ≡ out
+  unfolding signatureAnswer signatureAfter
+  signature-unchanged e = refused-leaves Refused Done done-apart (signatureFault m v (length out)) out _ e
+
+  pub signature-refuses : Refuses (signatureAnswer m v out) Refused Done (valueRules m v (length out))
+  unfolding signatureAnswer signatureFault valueRules essenceShapeRules
+  signature-refuses = refuses Refused Done done-apart same-outcome (valueRules m v (length out)) refl
 
 -- ---- codes
 

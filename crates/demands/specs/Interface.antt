@@ -36,6 +36,8 @@ use Rattle.signature.specs.Tests.{signatureRules}
 use Rattle.params.specs.declared.Parameters.{Parameters}
 use Rattle.params.specs.Accepted.{n-short}
 use Rattle.params.specs.Code.{shapeRules, codeRules, codeFault}
+use Rattle.essence.specs.Answers.{shapeRules as essenceShapeRules, essenceRules, essenceFault, essenceAnswer}
+use Rattle.essence.specs.Answers.{valueRules, signatureFault, signatureAnswer}
 use Rattle.codes.specs.declared.Sameness.the-variants.{Refused as NotCompared}
 use Rattle.codes.specs.Answers.{checkFault, checkAnswer, lowest, compared, sameFault, sameAnswer}
 use Rattle.codes.specs.Lowest.{lowest-le}
@@ -69,7 +71,7 @@ use Rattle.demands.specs.Outcomes.{compared-apart, same-sameness}
 
 -- the greatest number of 01's table
 abbrev pub greatestNumber : ℕ
-greatestNumber = 16
+greatestNumber = 17
 
 -- C reads a value as it is, and a refusal as a negative number
 abbrev pub IsValue : ℕ → Type 0
@@ -127,6 +129,14 @@ zov-block-inverse m a out = outcome-told (inverseRules m a (length out)) refl
 pub zov-formula : (m : ℕ) (β : Lent) (reading : TextReading) (out : List ℕ) → ToldApart outcomeCode (formulaAnswer m β reading out) Refused Done
 unfolding formulaAnswer formulaFault formulaRules lentRules readingRules
 zov-formula m β reading out = outcome-told (formulaRules m β reading (length out)) refl
+
+pub zov-essence : (m : ℕ) (h out : List ℕ) → ToldApart outcomeCode (essenceAnswer m h out) Refused Done
+unfolding essenceAnswer essenceFault essenceRules essenceShapeRules signatureRules
+zov-essence m h out = outcome-told (essenceRules m h (length out)) refl
+
+pub zov-signature : (m : ℕ) (v out : List ℕ) → ToldApart outcomeCode (signatureAnswer m v out) Refused Done
+unfolding signatureAnswer signatureFault valueRules essenceShapeRules
+zov-signature m v out = outcome-told (valueRules m v (length out)) refl
 
 module _ (c : Parameters) (h : List ℕ) where
   pub zov-check : (roots support : List ℕ) → ToldApart outcomeCode (checkAnswer c h roots support) Refused Done

@@ -10,6 +10,7 @@ pub mod Ride
 pub mod Verdicts
 pub mod Field
 pub mod Formula
+pub mod Essence
 pub mod Columns
 pub mod Alike
 pub mod SameMatrix

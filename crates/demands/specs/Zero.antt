@@ -30,13 +30,14 @@ use Rattle.formula.specs.Answers.{Answered, lentRules, readingRules, formulaRul
 use Rattle.signature.specs.Tests.{signatureRules, nonzero, noZero, linear}
 use Rattle.params.specs.declared.Parameters.{Parameters}
 use Rattle.params.specs.Code.{shapeRules, isRootCount, codeRules, codeFault}
+use Rattle.essence.specs.Answers.{shapeRules as essenceShapeRules, essenceRules, essenceFault, essenceAnswer, valueRules, signatureAnswer}
 use Rattle.codes.specs.Answers.{checkFault, checkAnswer}
 use Rattle.demands.specs.Demand1.{field-sum-refuses, field-product-refuses, field-inverse-refuses}
-use Rattle.demands.specs.Demand1.{block-sum-refuses, block-product-refuses, block-inverse-refuses}
+use Rattle.demands.specs.Demand1.{block-sum-refuses, block-product-refuses, block-inverse-refuses, signature-refuses}
 use Rattle.demands.specs.Lowest.{lacks, fault-lacks, fault-exactly, not-lowest}
 
 -- a refusal by a number that a single rule of the call has: exactly where the rules before that one hold and it does not
-refused-exactly : (rules : List Rule) (k : ℕ) (t : Bool) (more : List Rule) → T (numbered rules) → k ≢ 0
+pub refused-exactly : (rules : List Rule) (k : ℕ) (t : Bool) (more : List Rule) → T (numbered rules) → k ≢ 0
     → lacks k rules ≡ true → lacks k more ≡ true
     → (unless-refused (fault (rules ++ (k unless t) ∷ more)) Refused Done ≡ Refused k) ↔ (Hold rules × (t ≡ false))
 refused-exactly rules k t more are ne before after =
@@ -47,20 +48,23 @@ refused-exactly rules k t more are ne before after =
 
 -- ---- codes
 
+-- the test of 4 fails exactly if an entry is zero
+zero-entry : (h : List ℕ) → (noZero h ≡ false) ↔ ((i : ℕ) × (i < length h) × (entryOf h i ≡ 0))
+unfolding noZero nonzero
+zero-entry h = (
+  λ f.
+      let (i, l, zero) = all-fails (length h) (nonzero h) f in (i, l, eqb-true (entryOf h i) 0 (not-false (eqb (entryOf h i) 0) zero)),
+  λ z.
+      let (i, l, zero) = z in all-false (length h) (nonzero h) i l (ap not (eq-eqb (entryOf h i) 0 zero)),
+)
+
 -- a code is refused by 4 exactly if nothing from 1 to 3 is wrong with it and with the lent buffers, and an entry of its signature is zero
 pub check-4-exactly : (c : Parameters) (h roots support : List ℕ)
     → (checkAnswer c h roots support ≡ Refused 4)
     ↔ (Hold (shapeRules (eqb (length roots) (c .n) && eqb (length support) (c .n)) c h) × ((i : ℕ) × (i < length h) × (entryOf h i ≡ 0)))
-unfolding checkAnswer checkFault codeFault codeRules shapeRules signatureRules noZero nonzero
-check-4-exactly c h roots support = (
-  λ e.
-      let (shape, found) = exactly .0 e in
-      let (i, l, zero) = all-fails (length h) (nonzero h) found in
-      (shape, (i, l, eqb-true (entryOf h i) 0 (not-false (eqb (entryOf h i) 0) zero))),
-  λ z.
-      let (shape, (i, l, zero)) = z in
-      exactly .1 (shape, all-false (length h) (nonzero h) i l (ap not (eq-eqb (entryOf h i) 0 zero))),
-)
+unfolding checkAnswer checkFault codeFault codeRules shapeRules signatureRules
+check-4-exactly c h roots support =
+    (λ e. (exactly .0 e .0, zero-entry h .0 (exactly .0 e .1)), λ z. exactly .1 (z .0, zero-entry h .1 (z .1)))
   where
     buffers : Bool
     buffers = eqb (length roots) (c .n) && eqb (length support) (c .n)
@@ -69,6 +73,19 @@ check-4-exactly c h roots support = (
     exactly =
         refused-exactly (shapeRules buffers c h) 4 (noZero h)
         ((5 unless linear (c .m) h) ∷ (6 unless distinct h) ∷ (7 unless isRootCount (c .n) (c .t)) ∷ []) tt (λ z. omega arith) refl refl
+
+-- ---- signatures
+
+-- the essence of a signature is refused by 4 exactly if nothing from 1 to 3 is wrong with it and with the lent buffer, and an entry of it is zero
+pub essence-4-exactly : (m : ℕ) (h out : List ℕ)
+    → (essenceAnswer m h out ≡ Refused 4)
+    ↔ (Hold (essenceShapeRules m h (length h) (length out)) × ((i : ℕ) × (i < length h) × (entryOf h i ≡ 0)))
+unfolding essenceAnswer essenceFault essenceRules essenceShapeRules signatureRules
+essence-4-exactly m h out =
+    let exactly =
+    refused-exactly (essenceShapeRules m h (length h) (length out)) 4 (noZero h) ((5 unless linear m h) ∷ (6 unless distinct h) ∷ []) tt
+    (λ z. omega arith) refl refl in
+    (λ e. (exactly .0 e .0, zero-entry h .0 (exactly .0 e .1)), λ z. exactly .1 (z .0, zero-entry h .1 (z .1)))
 
 -- ---- blocks
 
@@ -83,7 +100,7 @@ block-inverse-9-exactly m a out =
       λ z. exactly .1 (z .0, ap not (eq-eqb (total (gf m) a) 0 (z .1))),
     )
 
--- ---- "Number 4 is thereby left to cards": no call without a code gives it
+-- ---- "Number 4 is thereby left to cards": no call without a signature gives it
 
 pub field-sum-never-4 : (m a b : ℕ) → sumAnswer m a b ≢ NoElement 4
 unfolding elementRules
@@ -108,6 +125,10 @@ block-product-never-4 m a b out e = not-lowest (block-product-refuses m a b out 
 pub block-inverse-never-4 : (m : ℕ) (a out : List ℕ) → blockInverseAnswer m a out ≢ Refused 4
 unfolding inverseRules blockRules sizeRules
 block-inverse-never-4 m a out e = not-lowest (block-inverse-refuses m a out .2 4 e) refl
+
+pub signature-never-4 : (m : ℕ) (v out : List ℕ) → signatureAnswer m v out ≢ Refused 4
+unfolding valueRules essenceShapeRules
+signature-never-4 m v out e = not-lowest (signature-refuses m v out .2 4 e) refl
 
 pub formula-never-4 : {m : ℕ} {text : List ℕ} {β : Lent} {out new : List ℕ} {r : Outcome} → Answered m text β out r new → r ≢ Refused 4
 unfolding formulaAnswer formulaFault formulaRules lentRules readingRules

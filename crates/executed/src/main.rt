@@ -1,5 +1,6 @@
-// The cases that are executed: the toy example, which is 01's card T, every pair of a gear and a lamp on it, the limits, and formulas. What this
-// prints is compared with the stored output.
+// The cases that are executed: the toy example, which is 01's card T, every pair of a gear and a lamp on it, the limits, formulas, and
+// essences. What this prints is compared with the stored output.
+mod essences;
 mod formulas;
 mod pairs;
 
@@ -218,4 +219,5 @@ fn main() {
     show_root_count(4);
     show_empty_message();
     formulas::show_formulas();
+    essences::show_essences();
 }

@@ -10,7 +10,7 @@ use lib.Pow.{pow-pos, pow-mono, mod-pow-add, high}
 use Rattle.algebra.specs.Xor.{_⊕_}
 use Rattle.algebra.specs.XorLaws.{⊕-self, ⊕-zero, zero-⊕, ⊕-comm, ⊕-lt, ⊕-block, ⊕-shifted, ⊕-div, ⊕-mod}
 use Rattle.field.specs.Product.{polyProduct, cutBack, remainder, product}
-use Rattle.algebra.specs.BitLaws.{bit-cases}
+use Rattle.algebra.specs.BitLaws.{bit-times-lt}
 use Rattle.field.specs.Horner.{timesU, timesU-zero, horner, ⊕-horner, horner-comm, cutBack-⊕}
 
 -- a word of degree m, as a number: its bit m is the highest
@@ -70,8 +70,7 @@ module _ (m w : ℕ) (D : Degree m w) where
   timesU-lt a h = cutBack-lt (a * 2) (subst (λ (x : ℕ). a * 2 < x) (sym (pow-suc 2 m)) (omega arith))
 
   pub bit-lt : (b a : ℕ) → a < 2 ^ m → (b % 2) * a < 2 ^ m
-  bit-lt b a h = bit-cases (λ (s : ℕ). s * a < 2 ^ m) (subst (λ (x : ℕ). x < 2 ^ m) (sym (zero-mul a)) (pow-pos m))
-      (subst (λ (x : ℕ). x < 2 ^ m) (sym (one-mul a)) h) b
+  bit-lt b a h = bit-times-lt m (b % 2) a (mod-lt b (zero-lt-suc 1)) h
 
   pub horner-lt : (k b a : ℕ) → a < 2 ^ m → horner m w k b a < 2 ^ m
   unfolding horner

@@ -15,11 +15,10 @@ use Rattle.refusals.specs.RuleLaws.{fault-here, fault-past, fault-none, fault-f
 use Rattle.field.specs.Range.{isWidth, isElement}
 use Rattle.field.specs.RangeLaws.{width-is}
 use Rattle.slices.specs.Lengths.{longest, isPower}
-use Rattle.slices.specs.LengthLaws.{power-is}
+use Rattle.slices.specs.LengthLaws.{power-is, power-short}
 use Rattle.slices.specs.Elements.{allElements}
 use Rattle.slices.specs.ElementLaws.{elements-are}
 use Rattle.params.specs.declared.Parameters.{Parameters}
-use Rattle.params.specs.Accepted.{power-short}
 use Rattle.params.specs.Code.{isLength, isRootCount, shapeRules, codeRules, codeFault}
 use Rattle.signature.specs.Tests.{signatureRules}
 use Rattle.signature.specs.Inverses.{Entries}

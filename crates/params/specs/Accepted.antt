@@ -10,8 +10,6 @@ use lib.Dec.{T, leb}
 use lib.ListN.{length}
 use lib.Pow.{pow-pos, pow-mono}
 use borrow.Author.Tests.{leb-true, le-leb, eqb-true, eq-eqb}
-use Rattle.algebra.specs.Distinct.{distinct}
-use Rattle.algebra.specs.DistinctLaws.{distinct-is}
 use Rattle.algebra.specs.Flags.{both-true, both-hold}
 use Rattle.algebra.specs.Lists.{entryOf}
 use Rattle.algebra.specs.Xor.{_⊕_}
@@ -22,17 +20,14 @@ use Rattle.field.specs.Gf.{gf}
 use Rattle.field.specs.GfLaws.{gf-laws}
 use Rattle.field.specs.RangeLaws.{width, width-is, element, element-is}
 use Rattle.slices.specs.ElementLaws.{elements-are}
-use Rattle.slices.specs.Lengths.{longestLog, longest, isPower}
-use Rattle.slices.specs.LengthLaws.{power-is, power}
+use Rattle.slices.specs.Lengths.{longest, isPower}
+use Rattle.slices.specs.LengthLaws.{power-is, power, power-short}
 use Rattle.signature.specs.Signature.{rootAt, supportAt, Conditions, Cauchy}
 use Rattle.signature.specs.Existence.{offset-pair}
-use Rattle.signature.specs.Tests.{signatureRules, noZero, linear}
-use Rattle.signature.specs.TestLaws.{noZero-is, linear-is}
+use Rattle.signature.specs.Tests.{signatureRules}
+use Rattle.signature.specs.TestLaws.{conditions-are}
 use Rattle.params.specs.declared.Parameters.{Parameters}
 use Rattle.params.specs.Code.{isLength, isRootCount, shapeRules, codeRules, Limits, Accepted, withOffset}
-
-pub power-short : (s e : ℕ) → e ≤ longestLog → s ≡ 2 ^ e → s ≤ longest
-power-short s e l v = subst (λ (x : ℕ). x ≤ longest) (sym v) (pow-mono l)
 
 module _ {c : Parameters} {h : List ℕ} (L : Limits c h) where
   pub n-short : c .n ≤ longest
@@ -62,12 +57,6 @@ module _ {c : Parameters} {h : List ℕ} (L : Limits c h) where
 pub code-numbered : (buffers : Bool) (c : Parameters) (h : List ℕ) → T (numbered (codeRules buffers c h))
 unfolding codeRules shapeRules signatureRules
 code-numbered buffers c h = tt
-
--- the three conditions, of the first n entries of h, which are all
-conditions-here : (m n : ℕ) (h : List ℕ) → length h ≡ n → noZero h ≡ true → linear m h ≡ true → distinct h ≡ true → Conditions (gf m) n (entryOf h)
-conditions-here m n h long z r d =
-    subst (λ (k : ℕ). Conditions (gf m) k (entryOf h)) long
-    (record { no-zero = noZero-is m h .0 z; linear = linear-is m h .0 r; distinct = distinct-is h .0 d })
 
 -- no number is due exactly if the buffers have their lengths and the code is accepted
 module _ (buffers : Bool) (c : Parameters) (h : List ℕ) where
@@ -103,7 +92,8 @@ module _ (buffers : Bool) (c : Parameters) (h : List ℕ) where
             t-high = leb-true (c .t) (c .n / 2) half;
           };
           ω-in = element-is (c .m) (c .omega) ω-element;
-          conditions = conditions-here (c .m) (c .n) h long no-zero is-linear is-distinct;
+          conditions = subst (λ (k : ℕ). Conditions (gf (c .m)) k (entryOf h)) long
+              (conditions-are (c .m) h .0 (no-zero, (is-linear, (is-distinct, tt))));
         },
       )
 
@@ -117,9 +107,7 @@ module _ (buffers : Bool) (c : Parameters) (h : List ℕ) where
       let h-long = eq-eqb (length h) (c .n) (L .h-length) in
       let h-elements = elements-are (c .m) h .1 (L .h-in) in
       let ω-element = element (c .m) (c .omega) (A .ω-in) in
-      let no-zero = noZero-is (c .m) h .1 (C .no-zero) in
-      let is-linear = linear-is (c .m) h .1 (C .linear) in
-      let is-distinct = distinct-is h .1 (C .distinct) in
+      let (no-zero, (is-linear, (is-distinct, none))) = conditions-are (c .m) h .1 C in
       let t-power = power (c .t) (L .f) (omega (arith, roots-fewer L, L .n-high)) (L .t-power) in
       let is-count = both-hold t-power (le-leb (c .t) (c .n / 2) (L .t-high)) in
       fault-none (codeRules buffers c h)

@@ -12,7 +12,7 @@ pub const LENGTH: u32 = 2;
 // An element or an offset is 2^m or more: 01's "stranger".
 pub const RANGE: u32 = 3;
 
-// A zero in a code's signature: 01's "blank".
+// A zero in a signature: 01's "blank".
 pub const ZERO: u32 = 4;
 
 // The rule for 1/h fails for some i and j: 01's "crossed".
@@ -50,6 +50,9 @@ pub const SHIFT: u32 = 15;
 
 // A text that is no formula, or that names a block that is not lent.
 pub const NO_FORMULA: u32 = 16;
+
+// Some of an essence's values, one or more, sum to zero.
+pub const DEPENDENT: u32 = 17;
 
 // The end of a call whose result stands in lent buffers: they are written only where it is Done, but for the counts of a ride.
 pub enum Outcome {

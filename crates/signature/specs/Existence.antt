@@ -18,7 +18,7 @@ module _ {A : Type 0} (K : Ops A) (F : Laws K) where
   infixl 70 _·_
   open Ops K using (In, nought, inv, add as _+_, mul as _·_)
 
-  inv-inv : (a : A) → In a → a ≢ nought → inv (inv a) ≡ a
+  pub inv-inv : (a : A) → In a → a ≢ nought → inv (inv a) ≡ a
   inv-inv a h ne =
       sym (inv-unique K F (inv a) a (F .in-inv a) h (inv≢nought K F a h ne) (F .mul-comm (inv a) a ∙ F .mul-inv a h ne))
 

@@ -1,5 +1,5 @@
 // 01's three conditions on a signature, for a signature of elements whose length is a power of two, and the roots and the support of one that keeps
-// them.
+// them. What they are made of, a test for zeros, one for equal entries and the inverses of all entries, serves other lists of elements too.
 use field::Elem;
 use field::internal::inverse;
 use field::internal::product;
@@ -35,7 +35,8 @@ pub fn signature_fault(m: u32, h: &[Elem], inverses: &mut [Elem]) -> u32
     0
 }
 
-fn no_zero(h: &[Elem]) -> bool
+// Whether no entry is zero.
+pub fn no_zero(h: &[Elem]) -> bool
     ensures { λ r. ⌜ r ≡ noZero (now (h .entry)) ⌝ }
 {
     for i in 0..h.len() {
@@ -58,7 +59,7 @@ fn is_linear(m: u32, h: &[Elem], inverses: &mut [Elem]) -> bool
 
 // The inverses of the entries, at their places, for the cost of one inverse: with P_i the product of the entries before place i, 1/h_i is
 // P_i · 1/P_(i+1), and 1/P_i is 1/P_(i+1) · h_i.
-fn invert(m: u32, h: &[Elem], inverses: &mut [Elem])
+pub fn invert(m: u32, h: &[Elem], inverses: &mut [Elem])
     requires { ⌜ Entries m (now h) (now inverses) × (noZero (now h) ≡ true) ⌝ }
     ensures { λ _. ⌜ Inverted m (now (h .entry)) (now (inverses .exit)) ⌝ }
 {
@@ -106,8 +107,8 @@ fn is_affine(n: usize, inverses: &[Elem]) -> bool
     kept
 }
 
-// Whether no two entries are equal, in a signature where that need only be asked of the first entry and the others.
-fn all_different(h: &[Elem]) -> bool
+// Whether no two entries are equal, in a list where that need only be asked of the first entry and the others.
+pub fn all_different(h: &[Elem]) -> bool
     requires { ⌜ EqualToFirst (now h) ⌝ }
     ensures { λ r. ⌜ r ≡ distinct (now (h .entry)) ⌝ }
 {

@@ -8,8 +8,10 @@ ghost use Rattle.slices.specs.Lengths.{isPower};
 ghost use Rattle.slices.specs.Elements.{allElements};
 ghost use Rattle.slices.specs.Bits.{allBits};
 
-// The longest block and the longest word.
-pub const LONGEST: usize = 512;
+// The longest block and the longest word have 2^LONGEST_LOG entries.
+pub const LONGEST_LOG: usize = 9;
+
+pub const LONGEST: usize = 1 << LONGEST_LOG;
 
 // Whether s is a power of two from 1 to LONGEST.
 pub fn is_power(s: usize) -> bool

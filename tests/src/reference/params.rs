@@ -64,7 +64,7 @@ pub fn judge(params: &Params, lent: &[(usize, u32)]) -> Result<(), u32> {
 }
 
 /// The three rules for signatures, each for itself: 4 for a zero, 5 where the rule for 1/h fails, 6 for equal entries.
-fn judge_signature(m: u32, h: &[Elem]) -> Result<(), u32> {
+pub(super) fn judge_signature(m: u32, h: &[Elem]) -> Result<(), u32> {
     if h.contains(&0) {
         return Err(4);
     }
@@ -176,12 +176,7 @@ mod tests {
         for (m, n) in [(2, 2), (2, 4), (3, 2), (3, 4), (4, 2), (4, 4)] {
             let q = field::size(m) as usize;
             let mut accepted = 0;
-            for mut index in 0..q.pow(n) {
-                let mut h = Vec::new();
-                for _ in 0..n {
-                    h.push((index % q) as Elem);
-                    index /= q;
-                }
+            for h in draw::every_list(m, n) {
                 let rules = judge_signature(m, &h).is_ok();
                 assert_eq!(rules, cauchy_sequences(m, &h).is_some(), "width {m}, signature {h:?}");
                 accepted += usize::from(rules);

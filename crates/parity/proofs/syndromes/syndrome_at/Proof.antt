@@ -3,10 +3,11 @@ use mathlib.Core.Path.{_≡_, refl}
 use Prim.Native.Nat.{_-_}
 use native.Mathlib.Omega.{arith}
 use lib.ListN.{length}
+use Rattle.algebra.specs.BitLaws.{bit-times-lt}
 use Rattle.algebra.specs.Xor.{_⊕_}
 use Rattle.field.proofs.Shift.{element-fits}
 use Rattle.parity.specs.Parity.{signatureSum}
-use Rattle.parity.proofs.Summing.{bit-element, Summing, sum-start, sum-turn, sum-end}
+use Rattle.parity.proofs.Summing.{Summing, sum-start, sum-turn, sum-end}
 use borrow.Author.Needs.{needs}
 use Rattle.parity.proofs.syndromes.syndrome_at.Statement.{statement}
 use Rattle.parity.proofs.syndromes.syndrome_at.Tie as tie
@@ -50,7 +51,7 @@ mul-sum-2 c =
     let W = pre .0 .width in
     let j = c .before .before .before .before .loop .j in
     record {
-      fits = element-fits _ W _ (bit-element _ W _ _ (pre .0 .bits j (omega (arith, pre .0 .long)))
+      fits = element-fits _ W _ (bit-times-lt _ _ _ (pre .0 .bits j (omega (arith, pre .0 .long)))
           (pre .0 .elements _ (pre .1 j (omega arith))));
     }
 
@@ -66,7 +67,7 @@ loop-again c =
     let pre = c .before .before .before .before .before .pre in
     let l = c .before .before .before .before .loop in (
       refl,
-      sum-turn (l .inv .1) (pre .0 .width) (omega arith) (pre .0 .bits (l .j) (omega (arith, pre .0 .long)))
+      sum-turn (l .inv .1) (omega arith) (pre .0 .bits (l .j) (omega (arith, pre .0 .long)))
           (pre .0 .elements _ (pre .1 (l .j) (omega arith))),
     )
 

@@ -1,0 +1,5 @@
+pub mod Shaped
+pub mod Choosing
+pub mod Storing
+pub mod Converting
+pub mod Ending
