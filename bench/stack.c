@@ -29,6 +29,14 @@ static const uint8_t gears[STEPS] = {1, 1, 1}, lamps[STEPS] = {0, 0, 0};
 static uint8_t turned[STEPS * N];
 static uint32_t counts[4];
 
+/* As many senders as there may be. The calls are made in their order: the start, the offer of a row's word with T bits
+ * turned, and the round that repairs it. */
+enum { SENDERS = 8 };
+static uint8_t waiting[SENDERS], words[SENDERS * N], handed[SENDERS * N];
+static uint32_t next;
+static int32_t answers[SENDERS];
+#define DASH M, N, T, 0, h, N, SENDERS, SENDERS
+
 /* A selection of CHOSEN blocks, its number of message columns, and a row's word with T bits turned. */
 static uint32_t blocks[CHOSEN], shifts[CHOSEN];
 static int selected_k;
@@ -62,6 +70,14 @@ static int32_t read_row(void) { return zov_read_row(M, N, T, 0, h, N, received, 
 static int32_t ride(void) {
     return zov_ride(M, N, T, 0, h, N, gears, STEPS, lamps, STEPS, turned, STEPS * N, counts, 4);
 }
+static int32_t senders_start(void) { return zov_senders_start(DASH, waiting, SENDERS, &next, 1); }
+static int32_t senders_offer(void) {
+    return zov_senders_offer(DASH, 0, received, N, waiting, SENDERS, words, SENDERS * N);
+}
+static int32_t senders_round(void) {
+    return zov_senders_round(DASH, waiting, SENDERS, words, SENDERS * N, &next, 1, answers, SENDERS,
+                             handed, SENDERS * N);
+}
 static int32_t selection_roles(void) { return zov_selection_roles(SELECTION, roles, LENGTH); }
 static int32_t selection_syndrome(void) {
     return zov_selection_syndrome(SELECTION, selected_received, LENGTH, syndrome, T);
@@ -91,6 +107,9 @@ static const struct call {
     {"zov_roles", code_roles},        {"zov_syndrome", word_syndrome},      {"zov_encode", encode},
     {"zov_message", word_message},    {"zov_repair", repair},
     {"zov_write_row", write_row},     {"zov_read_row", read_row},           {"zov_ride", ride},
+    {"zov_senders_start", senders_start},
+    {"zov_senders_offer", senders_offer},
+    {"zov_senders_round", senders_round},
     {"zov_selection_roles", selection_roles},
     {"zov_selection_syndrome", selection_syndrome},
     {"zov_selection_encode", selection_encode},

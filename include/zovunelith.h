@@ -56,9 +56,10 @@ int32_t zov_formula(uint32_t m, const uint8_t *text, size_t text_length, const z
 int32_t zov_check(uint32_t m, uint32_t n, uint32_t t, uint32_t omega, const zov_elem *h, size_t h_length,
                   zov_elem *roots, size_t roots_length, zov_elem *support, size_t support_length);
 
-/* 1 if two codes are the same, their m, n, t, omega and h being equal, and 0 if not; refused by the lower number of both
- * codes. Two accepted codes that differ in omega alone have other roots and another support; the functions for words,
- * for repair, for rows and for rides, and those for selections, give the same values for both and write the same. */
+/* 1 if two codes are the same, their m, n, t, omega and h being equal, and 0 if not; refused by the lower number of
+ * both codes. Two accepted codes that differ in omega alone have other roots and another support; the functions for
+ * words, for repair, for rows, for rides and for senders, and those for selections, give the same values for both and
+ * write the same. */
 int32_t zov_same(uint32_t m1, uint32_t n1, uint32_t t1, uint32_t omega1, const zov_elem *h1, size_t h1_length,
                  uint32_t m2, uint32_t n2, uint32_t t2, uint32_t omega2, const zov_elem *h2, size_t h2_length);
 
@@ -115,6 +116,43 @@ int32_t zov_read_row(uint32_t m, uint32_t n, uint32_t t, uint32_t omega, const z
 int32_t zov_ride(uint32_t m, uint32_t n, uint32_t t, uint32_t omega, const zov_elem *h, size_t h_length,
                  const uint8_t *gears, size_t gears_length, const uint8_t *lamps, size_t lamps_length,
                  const uint8_t *turned, size_t turned_length, uint32_t *counts, size_t counts_length);
+
+/* Turns for several senders on one code. A dash listens to `senders` of them, 1 to 8, numbered from 0, and a round
+ * repairs at most `repairs` words, 1 to 8; both numbers and the code are to stay as they were at the start. The state
+ * is lent: `waiting` has a byte for each sender, 1 where a word of that sender waits and 0 where none does; `words` has
+ * a word of n bytes for each sender, one after the other; `next` has one number, the sender whose turn it is. The value
+ * is 0.
+ *
+ * zov_senders_start has no word wait and gives sender 0 the turn. zov_senders_offer has a sender's word of n bytes
+ * wait; a sender has at most one word waiting.
+ *
+ * zov_senders_round hands out every waiting word that is a code word, and repairs the first `repairs` of the others in
+ * turn, or all of them if fewer wait. Turns go up by number and round again; they begin at the sender in `next`, where
+ * the one after the sender last tried is put. Handing out a code word doesn't move the turn. A word that was handed
+ * out, repaired or found too far has left, and no longer waits. The answer for sender p stands in answers[p]: what
+ * zov_repair returns for that word alone, a count, which is 0 for a code word, or -10; ZOV_NONE where no word of p
+ * left. `handed` has n bytes for each sender: where the answer is 0 or more the repaired word stands in part p, and
+ * every other part is left alone.
+ *
+ * In every state that offers and rounds make from the start, a word leaves within senders / repairs rounds, rounded up,
+ * the round after its arrival being the first, whatever the others send.
+ *
+ * Refused by 1 to 7, with 2 for another length of the word than n, of `waiting` and `answers` than `senders`, of
+ * `words` and `handed` than senders * n, which does not wrap around, and of `next` than 1; then by 18 (`senders` or
+ * `repairs` not from 1 to 8, `sender` or the number in `next` not below `senders`), 19 (the byte of `sender` in
+ * `waiting` is not 0), and 8: a byte of the word that is neither 0 nor 1 and, in a round, such a byte in `waiting` or
+ * in a word that waits. Where no word waits, anything may stand in `words`. */
+#define ZOV_NONE INT32_MIN
+int32_t zov_senders_start(uint32_t m, uint32_t n, uint32_t t, uint32_t omega, const zov_elem *h, size_t h_length,
+                          uint32_t senders, uint32_t repairs, uint8_t *waiting, size_t waiting_length,
+                          uint32_t *next, size_t next_length);
+int32_t zov_senders_offer(uint32_t m, uint32_t n, uint32_t t, uint32_t omega, const zov_elem *h, size_t h_length,
+                          uint32_t senders, uint32_t repairs, uint32_t sender, const uint8_t *word, size_t word_length,
+                          uint8_t *waiting, size_t waiting_length, uint8_t *words, size_t words_length);
+int32_t zov_senders_round(uint32_t m, uint32_t n, uint32_t t, uint32_t omega, const zov_elem *h, size_t h_length,
+                          uint32_t senders, uint32_t repairs, uint8_t *waiting, size_t waiting_length,
+                          const uint8_t *words, size_t words_length, uint32_t *next, size_t next_length,
+                          int32_t *answers, size_t answers_length, uint8_t *handed, size_t handed_length);
 
 /* Selections: words over some blocks of a code, a block being t columns in a row. `blocks` names 1 to n / t blocks, by
  * numbers below n / t, in any order and each at most once; `shifts` has a number below t for each of them. Place

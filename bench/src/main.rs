@@ -12,7 +12,7 @@ use std::hint::black_box;
 use std::process::{self, exit, Command};
 use std::time::Instant;
 use std::{env, fs};
-use zovunelith::{block, field, sheet, Code, Elem, Lamp, Row, Selection, LONGEST_RIDE};
+use zovunelith::{block, field, sheet, Code, Elem, Lamp, Row, Selection, LONGEST_RIDE, MOST_SENDERS};
 
 /// m, n and t.
 type Shape = (u32, u32, u32);
@@ -20,7 +20,7 @@ type Shape = (u32, u32, u32);
 const SHAPES: [Shape; 7] =
     [(5, 16, 2), (8, 64, 4), (8, 128, 8), (8, 128, 64), (11, 512, 32), (16, 512, 8), (16, 512, 256)];
 
-const CALLS: [&str; 27] = [
+const CALLS: [&str; 30] = [
     "field sum",
     "field product",
     "field inverse",
@@ -40,6 +40,9 @@ const CALLS: [&str; 27] = [
     "write row",
     "read row",
     "step of a ride",
+    "senders start",
+    "senders offer",
+    "senders round",
     "selection roles",
     "selection syndrome",
     "selection encode",
@@ -76,6 +79,9 @@ const GROWTH: [Shape; 9] = [
 const GROWING: [&str; 4] = ["check", "roles", "syndrome", "repair"];
 
 const FIRST_DARK: Row = Row { gear: 1, lamp: Lamp::Dark };
+
+/// The senders of a dash, and the repairs in a round: as many as there may be, so that a round repairs a word of each.
+const SENDERS: u32 = MOST_SENDERS as u32;
 
 /// Has every operation, with the signature for each of the letters.
 const FORMULA: &[u8] = b"(A+B*C')/D";
@@ -290,6 +296,12 @@ impl Inputs {
         rival::Code { field: &self.field, t: self.t, omega: self.omega as Elem, h: &self.h }
     }
 
+    /// As many senders as there may be, each with a word of t turned places, and as many repairs in a round.
+    fn rival_senders(&self) -> rival::Senders {
+        let words = self.whole.received.repeat(MOST_SENDERS);
+        rival::Senders { repairs: MOST_SENDERS, waiting: vec![0; MOST_SENDERS], words, next: 0 }
+    }
+
     /// The product's call, to be made again and again; none where the shape has no such call.
     fn product_call(&self, call: &str) -> Option<Box<dyn FnMut() + '_>> {
         if let Some(call) = call.strip_prefix("selection ") {
@@ -316,6 +328,29 @@ impl Inputs {
                 let [gears, lamps] = [1, 0].map(|number| vec![number; LONGEST_RIDE]);
                 let (turned, mut counts) = (self.whole.marks.repeat(LONGEST_RIDE), [0; 4]);
                 Box::new(move || code.ride_lists(&gears, &lamps, &turned, &mut counts).expect("rows and marks"))
+            }
+            "senders start" => {
+                let (mut waiting, mut next) = ([0; MOST_SENDERS], [0]);
+                Box::new(move || code.senders_start(SENDERS, SENDERS, &mut waiting, &mut next).expect("senders"))
+            }
+            "senders offer" => {
+                let (mut waiting, mut words) = ([0; MOST_SENDERS], vec![0; MOST_SENDERS * n]);
+                Box::new(move || {
+                    // That of the offer before waits still.
+                    waiting[0] = 0;
+                    let (word, waiting) = (&self.whole.received, &mut waiting);
+                    code.senders_offer(SENDERS, SENDERS, 0, word, waiting, &mut words).expect("a word");
+                })
+            }
+            "senders round" => {
+                let (words, mut handed) = (self.whole.received.repeat(MOST_SENDERS), vec![0; MOST_SENDERS * n]);
+                let (mut waiting, mut next, mut answers) = ([0; MOST_SENDERS], [0], [0; MOST_SENDERS]);
+                Box::new(move || {
+                    // All have left in the round before.
+                    waiting.fill(1);
+                    let (waiting, next, answers) = (&mut waiting, &mut next, &mut answers);
+                    code.senders_round(SENDERS, SENDERS, waiting, &words, next, answers, &mut handed).expect("words");
+                })
             }
             "sheet" => {
                 let mut listing = vec![0; sheet::LONGEST_LISTING];
@@ -374,6 +409,30 @@ impl Inputs {
                         word.iter_mut().zip(marks).for_each(|(bit, mark)| *bit ^= mark);
                         black_box(columns.read_row_by(&basis, &inverses, &word, &mut repaired).expect("t places"));
                     }
+                })
+            }
+            "senders start" => {
+                let mut senders = self.rival_senders();
+                Box::new(move || {
+                    check(&mut inverses);
+                    senders.start().expect("senders");
+                })
+            }
+            "senders offer" => {
+                let mut senders = self.rival_senders();
+                Box::new(move || {
+                    check(&mut inverses);
+                    senders.waiting[0] = 0;
+                    senders.offer(0, &self.whole.received).expect("a word");
+                })
+            }
+            "senders round" => {
+                let (mut senders, mut answers) = (self.rival_senders(), vec![None; MOST_SENDERS]);
+                let mut handed = vec![0; MOST_SENDERS * n];
+                Box::new(move || {
+                    check(&mut inverses);
+                    senders.waiting.fill(1);
+                    senders.round(&code.whole(), &inverses, &mut answers, &mut handed).expect("words");
                 })
             }
             "sheet" => Box::new(move || keep(rival_listing(&self.field, &self.text))),

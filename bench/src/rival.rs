@@ -4,7 +4,7 @@
 
 use std::borrow::Cow;
 use std::ops::Range;
-use zovunelith::Elem;
+use zovunelith::{Elem, MOST_SENDERS};
 
 /// The longest word, and the longest block.
 pub const LONGEST: usize = 512;
@@ -430,6 +430,13 @@ impl<Column: Fn(usize) -> usize> Words<'_, Column> {
         }
     }
 
+    fn is_code_word(&self, word: &[u8]) -> bool {
+        let mut syndrome = [0; MOST_ROOTS];
+        let syndrome = &mut syndrome[..self.code.t];
+        self.syndrome(word, syndrome);
+        syndrome.iter().all(|&row| row == 0)
+    }
+
     /// Bit b of the entries of row i, over the places.
     fn parity_row(&self, i: usize, b: u32, row: &mut [u64]) {
         for (w, bits) in row.iter_mut().enumerate() {
@@ -562,5 +569,74 @@ impl<Column: Fn(usize) -> usize> Words<'_, Column> {
         }
         repaired.copy_from_slice(word);
         Some(number)
+    }
+}
+
+/// Several senders on one code, with a word of each.
+pub struct Senders {
+    /// How many words a round repairs at most.
+    pub repairs: usize,
+    /// 1 for each sender whose word waits.
+    pub waiting: Vec<u8>,
+    /// One after the other.
+    pub words: Vec<u8>,
+    /// The sender whose turn it is.
+    pub next: usize,
+}
+
+fn are_bits(bytes: &[u8]) -> bool {
+    bytes.iter().all(|&byte| byte <= 1)
+}
+
+impl Senders {
+    fn in_range(&self) -> bool {
+        let range = 1..=MOST_SENDERS;
+        range.contains(&self.waiting.len()) && range.contains(&self.repairs) && self.next < self.waiting.len()
+    }
+
+    pub fn start(&mut self) -> Option<()> {
+        self.waiting.fill(0);
+        self.next = 0;
+        self.in_range().then_some(())
+    }
+
+    pub fn offer(&mut self, sender: usize, word: &[u8]) -> Option<()> {
+        if !self.in_range() || *self.waiting.get(sender)? != 0 || !are_bits(word) {
+            return None;
+        }
+        self.waiting[sender] = 1;
+        self.words[sender * word.len()..][..word.len()].copy_from_slice(word);
+        Some(())
+    }
+
+    /// What repair gives for each word that left.
+    pub fn round<Column: Fn(usize) -> usize>(
+        &mut self,
+        columns: &Words<'_, Column>,
+        inverses: &[Elem],
+        answers: &mut [Option<Option<u32>>],
+        handed: &mut [u8],
+    ) -> Option<()> {
+        let (senders, n) = (self.waiting.len(), columns.length);
+        let mut waiting = self.words.chunks(n).zip(&self.waiting).filter(|&(_, &waits)| waits == 1);
+        if !self.in_range() || !are_bits(&self.waiting) || !waiting.all(|(word, _)| are_bits(word)) {
+            return None;
+        }
+        answers.fill(None);
+        let (mut left, first) = (self.repairs, self.next);
+        for sender in (first..senders).chain(0..first) {
+            let word = &self.words[sender * n..][..n];
+            if self.waiting[sender] == 0 || left == 0 && !columns.is_code_word(word) {
+                continue;
+            }
+            let answer = columns.repair(inverses, word, &mut handed[sender * n..][..n]);
+            if answer != Some(0) {
+                left -= 1;
+                self.next = (sender + 1) % senders;
+            }
+            answers[sender] = Some(answer);
+            self.waiting[sender] = 0;
+        }
+        Some(())
     }
 }

@@ -6,7 +6,7 @@
 //! A [`Code`] is a card: any values may stand in it, and each call refuses by a [`Refusal`] what breaks a rule. Buffers
 //! are lent by the caller and are left alone by a call that is refused, with one exception: a ride that ends by 8 or 11
 //! writes the counts up to there ([`Code::ride`], which also takes room to work in). A [`Selection`] has the calls on
-//! words for some blocks of a code. A signature has a short form, its [`essence`].
+//! words for some blocks of a code. [`Senders`] take turns at one dash. A signature has a short form, its [`essence`].
 //!
 //! ```
 //! use zovunelith::{Code, Lamp, Refusal, Row};
@@ -38,6 +38,7 @@ mod refusal;
 mod ride;
 mod row;
 mod selection;
+mod senders;
 pub mod sheet;
 mod words;
 
@@ -47,6 +48,7 @@ pub use refusal::Refusal;
 pub use ride::{Counts, Step, LONGEST_RIDE};
 pub use row::{Lamp, Reading, Row};
 pub use selection::Selection;
+pub use senders::{Answers, Senders, MOST_SENDERS, NONE};
 
 /// An element of a field (`zov_elem`).
 pub type Elem = u16;

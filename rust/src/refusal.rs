@@ -21,7 +21,7 @@ pub enum Refusal {
     Twin = 6,
     /// 7: t is not a power of two from 1 to n/2.
     Rows = 7,
-    /// 8: a byte of a word, a message or a step's marks is neither 0 nor 1.
+    /// 8: a byte of a word, a message, a step's marks or the list of who waits is neither 0 nor 1.
     Bit = 8,
     /// 9: the inverse of a block whose elements sum to zero.
     DeadBlock = 9,
@@ -41,10 +41,15 @@ pub enum Refusal {
     Formula = 16,
     /// 17: some of an essence's values, one or more, sum to zero.
     Dependent = 17,
+    /// 18: the number of senders or of a round's repairs is not from 1 to 8, or a sender's number is not below that of
+    /// the senders.
+    Sender = 18,
+    /// 19: a word is offered while that sender has one waiting.
+    Waiting = 19,
 }
 
 /// Every refusal, with its word on the bench and its meaning.
-const TABLE: [(Refusal, &str, &str); 17] = [
+const TABLE: [(Refusal, &str, &str); 19] = [
     (Refusal::Width, "width", "m outside 2 to 16"),
     (Refusal::Length, "length", "n, a block, an essence, a ride or a lent buffer has another length than is asked for"),
     (Refusal::Stranger, "stranger", "an element or offset of 2^m or more"),
@@ -52,7 +57,7 @@ const TABLE: [(Refusal, &str, &str); 17] = [
     (Refusal::Crossed, "crossed", "the rule for 1/h fails for some i and j"),
     (Refusal::Twin, "twin", "two equal entries in a signature"),
     (Refusal::Rows, "rows", "t is not a power of two from 1 to n/2"),
-    (Refusal::Bit, "bit", "a byte of a word, message or step's marks other than 0 or 1"),
+    (Refusal::Bit, "bit", "a byte of a word, message, step's marks or list of who waits other than 0 or 1"),
     (Refusal::DeadBlock, "dead block", "inverse of a block whose elements sum to zero"),
     (Refusal::TooFar, "too far", "no code word within t bits"),
     (Refusal::NoSuchRow, "no such row", "gear or lamp outside the rules"),
@@ -62,6 +67,8 @@ const TABLE: [(Refusal, &str, &str); 17] = [
     (Refusal::Shift, "shift", "a shift of t or more"),
     (Refusal::Formula, "formula", "text outside the rules of formulas, or a letter with no block lent"),
     (Refusal::Dependent, "dependent", "a non-empty choice of an essence's values sums to zero"),
+    (Refusal::Sender, "sender", "S, R or a sender's number out of range"),
+    (Refusal::Waiting, "waiting", "a word offered while that sender has one"),
 ];
 
 impl Refusal {
@@ -70,7 +77,7 @@ impl Refusal {
         TABLE[number as usize - 1].0
     }
 
-    /// Its number, from 1 to 17.
+    /// Its number, from 1 to 19.
     pub fn number(self) -> u32 {
         self as u32
     }

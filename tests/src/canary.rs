@@ -31,6 +31,12 @@ impl Entry for u32 {
     }
 }
 
+impl Entry for i32 {
+    fn of_byte(byte: u8) -> i32 {
+        i32::from_ne_bytes([byte; 4])
+    }
+}
+
 pub struct Lent<T> {
     entries: Vec<T>,
     at_entry: Vec<T>,

@@ -1,13 +1,15 @@
-//! The calls on words, of a whole code or of a selection, and rides, held against what is expected of them: each is
-//! made with canaries around every buffer, and its answer and its buffers are to be those of `expected`.
+//! The calls on words, of a whole code or of a selection, rides, and the calls for several senders, held against what
+//! is expected of them: each is made with canaries around every buffer, and its answer and its buffers are to be those
+//! of `expected`.
 
 use crate::bits::turned;
 use crate::canary::Lent;
-use crate::library::{repair, ride, rows, words};
+use crate::library::{repair, ride, rows, senders, words};
 use crate::reference::columns::Setting;
 use crate::reference::params::Params;
 use crate::reference::ride::{Lists, Ridden};
 use crate::reference::rows::Read;
+use crate::reference::senders::{Call, Dash, Given};
 use crate::Elem;
 
 /// A list to be written, or a number.
@@ -97,6 +99,36 @@ pub fn ride_gives(params: &Params, lists: &Lists, mut counts: Lent<u32>, expecte
     assert_eq!(answer, expected.answer, "{params:?}, {:.6000}", format!("{lists:?}"));
     lent.iter().for_each(Lent::assert_unchanged);
     counts.assert_holds(expected.counts.as_ref().map(|counts| counts.as_slice()));
+}
+
+/// Makes a call on a dash that holds this. What it is to hold afterwards is expected, or the number of a refusal, which
+/// leaves it alone.
+#[track_caller]
+pub fn dash_gives(given: &Given, call: &Call, dash: &Dash, expected: &Result<Dash, u32>) {
+    let [mut waiting, mut words, mut handed] =
+        [&dash.waiting, &dash.words, &dash.handed].map(|list| Lent::holding(list));
+    let (mut next, mut answers) = (Lent::holding(&dash.next), Lent::holding(&dash.answers));
+    let answer = match call {
+        Call::Start => senders::start(given, waiting.slice_mut(), next.slice_mut()),
+        Call::Offer { sender, word } => {
+            let word = Lent::holding(word);
+            let answer = senders::offer(given, *sender, word.slice(), waiting.slice_mut(), words.slice_mut());
+            word.assert_unchanged();
+            answer
+        }
+        Call::Round => {
+            let (waiting, next) = (waiting.slice_mut(), next.slice_mut());
+            senders::round(given, waiting, words.slice(), next, answers.slice_mut(), handed.slice_mut())
+        }
+    };
+    // The words of many senders can be long: their beginning is enough to tell which they are.
+    assert_eq!(answer, told(expected, |_| ()), "{given:?}, {:.6000}", format!("{call:?} on {dash:?}"));
+    let after = expected.as_ref().ok();
+    waiting.assert_holds(after.map(|after| after.waiting.as_slice()));
+    words.assert_holds(after.map(|after| after.words.as_slice()));
+    next.assert_holds(after.map(|after| after.next.as_slice()));
+    answers.assert_holds(after.map(|after| after.answers.as_slice()));
+    handed.assert_holds(after.map(|after| after.handed.as_slice()));
 }
 
 /// What the call is to answer, of all that is expected.

@@ -191,6 +191,39 @@ pub mod ride {
     }
 }
 
+/// Turns for several senders, by the buffers as they are lent.
+pub mod senders {
+    use super::*;
+    use crate::reference::senders::Given;
+
+    #[track_caller]
+    pub fn start(given: &Given, waiting: &mut [u8], next: &mut [u32]) -> Result<(), u32> {
+        let Given { params, senders, repairs } = given;
+        call_on_code!(params, code => code.senders_start(*senders, *repairs, waiting, next))
+    }
+
+    #[track_caller]
+    pub fn offer(given: &Given, sender: u32, word: &[u8], waiting: &mut [u8], words: &mut [u8]) -> Result<(), u32> {
+        let Given { params, senders, repairs } = given;
+        call_on_code!(params, code => code.senders_offer(*senders, *repairs, sender, word, waiting, words))
+    }
+
+    #[track_caller]
+    pub fn round(
+        given: &Given,
+        waiting: &mut [u8],
+        words: &[u8],
+        next: &mut [u32],
+        answers: &mut [i32],
+        handed: &mut [u8],
+    ) -> Result<(), u32> {
+        let Given { params, senders, repairs } = given;
+        call_on_code!(params, code => {
+            code.senders_round(*senders, *repairs, waiting, words, next, answers, handed)
+        })
+    }
+}
+
 /// The bench sheet.
 pub mod sheet {
     use super::numbered;

@@ -5,8 +5,8 @@ use zovunelith_tests::bits::{ones_at, turned};
 use zovunelith_tests::canary::Lent;
 use zovunelith_tests::draw;
 use zovunelith_tests::expect::{
-    comes_back, encoding_gives, message_gives, reading_gives, repair_gives, ride_gives, roles_give, syndrome_gives,
-    writing_gives,
+    comes_back, dash_gives, encoding_gives, message_gives, reading_gives, repair_gives, ride_gives, roles_give,
+    syndrome_gives, writing_gives,
 };
 use zovunelith_tests::library;
 use zovunelith_tests::random::Random;
@@ -15,6 +15,7 @@ use zovunelith_tests::reference::params::Params;
 use zovunelith_tests::reference::repair::Decoder;
 use zovunelith_tests::reference::ride::{self, Lists, Ridden};
 use zovunelith_tests::reference::rows::{self, Row};
+use zovunelith_tests::reference::senders::{self, Call, Dash, Given, NONE, TOO_FAR};
 use zovunelith_tests::reference::words::Code;
 use zovunelith_tests::reference::{block, essence, field, formula, params, sheet};
 use zovunelith_tests::Elem;
@@ -358,4 +359,51 @@ fn rows_with_many_turned_places() {
         panic!("{expected:?} has other counts");
     };
     ride_gives(&params, &lists, Lent::marked(ride::COUNTS), &expected);
+}
+
+/// Eight senders of the longest words, with the greatest counts: all in one round, and one after the other, the turn
+/// beginning at the last sender.
+#[test]
+fn eight_senders_of_the_longest_words() {
+    let mut random = Random::new(1314);
+    for (m, t) in [(10, 32), (16, 1), (16, 4), (16, 256)] {
+        let decoder = Decoder::new(Code::new(&draw::params(&mut random, m, 512, t)));
+        let (code, t) = (&decoder.code, t as usize);
+        let sent = code.encode(&random.bits(code.k()));
+        let given = |repairs: u32| Given { params: code.params.clone(), senders: 8, repairs };
+        let compare = |given: &Given, call: &Call, dash: &Dash| {
+            let expected = senders::made_on(&decoder, given, call, dash);
+            dash_gives(given, call, dash, &expected);
+            expected.expect("not refused")
+        };
+        let mut dash = Dash {
+            waiting: vec![0; 8],
+            words: vec![7; 8 * 512],
+            next: vec![7],
+            answers: vec![7; 8],
+            handed: vec![7; 8 * 512],
+        };
+        // The word of sender 2 is a code word. In the others t of the last places are turned, or one less.
+        let count = |sender: usize| if sender == 2 { 0 } else { t - sender % t.min(2) };
+        for sender in 0..8 {
+            let word = turned(&sent, &(512 - count(sender)..512).collect::<Vec<usize>>());
+            dash = compare(&given(1), &Call::Offer { sender: sender as u32, word }, &dash);
+        }
+        let all = compare(&given(8), &Call::Round, &dash);
+        let answers = (0..8).map(|sender| count(sender) as i32).collect();
+        assert_eq!((all.answers, all.handed, all.next), (answers, sent.repeat(8), vec![7]));
+        // The turn after 7 is that of 0 and 1, and then that of 3, since 2 has left.
+        for sender in [7, 0, 1, 3, 4, 5, 6] {
+            let first = sender == 7;
+            dash = compare(&given(1), &Call::Round, &dash);
+            let answer = |other: usize| if other == sender || first && other == 2 { count(other) as i32 } else { NONE };
+            assert_eq!(dash.answers, (0..8).map(answer).collect::<Vec<i32>>());
+        }
+        assert_eq!((&dash.waiting, &dash.handed, &dash.next), (&vec![0; 8], &sent.repeat(8), &vec![7]));
+        // One place more than is repaired: with 256 rows only the zero word is a code word.
+        let word = turned(&sent, &(0..=t).collect::<Vec<usize>>());
+        dash = compare(&given(1), &Call::Offer { sender: 7, word }, &dash);
+        let answer = compare(&given(1), &Call::Round, &dash).answers[7];
+        assert!(t < 256 || answer == TOO_FAR, "{answer}");
+    }
 }

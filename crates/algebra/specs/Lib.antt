@@ -16,6 +16,8 @@ pub mod Tabulate
 pub mod TabulateLaws
 pub mod Filling
 pub mod Splice
+pub mod Parts
+pub mod PartLaws
 pub mod All
 pub mod Flags
 pub mod AllLaws

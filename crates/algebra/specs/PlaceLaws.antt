@@ -3,8 +3,9 @@ use mathlib.Core.Path.{_≡_, refl, sym, ap, ap₂, _∙_}
 use mathlib.Core.Bool.{Bool, true, false, cond, not, false≢true}
 use mathlib.Core.List.{List, [], _∷_, _++_, append-nil}
 use Prim.Native.Nat.{ℕ, zero, suc, _+_, _-_, _<_, _≤_}
-use native.Mathlib.Nat.{not-suc-le-zero, add-zero}
+use native.Mathlib.Nat.{not-suc-le-zero, add-zero, le-of-eq}
 use native.Mathlib.Numerals.{add-one}
+use native.Mathlib.Decide.{decLt}
 use native.Mathlib.Omega.{arith}
 use lib.ListN.{length, take, drop, length-append}
 use lib.Seq.{take-suc, take-at, drop-at}
@@ -81,6 +82,18 @@ count-le (suc n) p = omega (arith, count-le n p, one (p n))
     one : (b : Bool) → cond b 1 0 ≤ 1
     one true = omega arith
     one false = omega arith
+
+-- of more places no fewer pass
+pub count-more : (k : ℕ) {i : ℕ} (p : ℕ → Bool) → i ≤ k → count i p ≤ count k p
+unfolding count
+count-more zero {i} p l =
+    let same : i ≡ 0 = omega arith in le-of-eq (ap (λ (j : ℕ). count j p) same)
+count-more (suc k) {i} p l = decided (decLt k i) (λ le. count-more k p le)
+  where
+    decided : Dec (k < i) → (i ≤ k → count i p ≤ count k p) → count i p ≤ count k p + cond (p k) 1 0
+    decided (yes more) earlier =
+        let same : i ≡ suc k = omega arith in le-of-eq (ap (λ (j : ℕ). count j p) same)
+    decided (no less) earlier = omega (arith, earlier (omega arith))
 
 pub count-full : (n : ℕ) (f : ℕ → Bool) → n ≤ count n f → (q : ℕ) → q < n → f q ≡ true
 unfolding count

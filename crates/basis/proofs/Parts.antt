@@ -3,9 +3,10 @@ use mathlib.Core.Path.{_≡_, ap, _∙_}
 use mathlib.Core.List.{List}
 use Prim.Native.Nat.{ℕ, _+_, _-_, _*_, _/_, _%_, _≤_, _<_}
 use native.Mathlib.Omega.{arith}
-use lib.ListN.{length, take, drop, length-drop}
-use lib.Seq.{length-take-le, getD-take, getD-drop}
+use lib.ListN.{length, take, drop}
+use lib.Seq.{getD-take, getD-drop}
 use Rattle.algebra.specs.Bits.{bitAt}
+use Rattle.algebra.specs.PartLaws.{part-wide, length-lent}
 use Rattle.slices.specs.Lengths.{longest}
 use Rattle.basis.specs.Packed.{packedBit}
 use Rattle.basis.specs.Table.{rowWords, rowBit, Room}
@@ -15,13 +16,13 @@ abbrev pub partWords : ℕ → ℕ
 partWords p = p * rowWords + rowWords - p * rowWords
 
 pub part-words : (p : ℕ) → partWords p ≡ rowWords
-part-words p = omega arith
+part-words p = part-wide rowWords p
 
 abbrev pub rowPart : List ℕ → ℕ → List ℕ
 rowPart rows p = take (partWords p) (drop (p * rowWords) rows)
 
 pub part-length : (p : ℕ) (rows : List ℕ) → p * rowWords + rowWords ≤ length rows → length (rowPart rows p) ≡ rowWords
-part-length p rows h = length-take-le (partWords p) (drop (p * rowWords) rows) (simp length-drop (omega arith)) ∙ part-words p
+part-length p rows h = length-lent rowWords rows p h
 
 pub part-bit : (rows : List ℕ) (p j : ℕ) → j < longest → packedBit (rowPart rows p) j ≡ rowBit rows p j
 unfolding packedBit rowBit

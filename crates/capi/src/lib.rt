@@ -10,3 +10,4 @@ pub mod listings;
 pub mod repairing;
 pub mod riding;
 pub mod selections;
+pub mod senders;

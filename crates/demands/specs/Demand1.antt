@@ -5,8 +5,8 @@
 -- it gives its value exactly if all its rules hold, is refused otherwise, and by the lowest number that applies (`..-refuses`). The rules of calls on
 -- words, on sheets and on formulas come in parts, since there are exceptions from the lowest number: the 2, 14 and 15 of a selection come after 7; 12
 -- comes after these and before all others (`write-row`, `read-row`, `ride`); the 2 of a message's length comes after 7, 14 and 15 and before 8
--- (`encode`, `message`); the steps of a ride come one after the other, each with 8 and then 11 (`ride`); 16 comes before 9 (`formula`); and 13 comes
--- first, and the 2 of a short buffer last, for a sheet (`listing`).
+-- (`encode`, `message`); the steps of a ride come one after the other, each with 8 and then 11 (`ride`); 18 and 19 come before 8 (`senders`); 16
+-- comes before 9 (`formula`); and 13 comes first, and the 2 of a short buffer last, for a sheet (`listing`).
 --
 -- The one exception to demand 1: a ride that a step ends, by 8 or 11, writes the counts up to there, without that step (`ride-exception`, and
 -- `counts-up-to-there` of `Ride`). Refused by any other number, it leaves the buffer as it was (`ride-unchanged`).
@@ -17,8 +17,9 @@ use mathlib.Core.List.{List, [], _∷_, _++_, append-assoc, append-nil}
 use Prim.Native.Nat.{ℕ, zero, suc}
 use native.Mathlib.Decide.{ℕ-discrete}
 use native.Mathlib.Omega.{arith}
-use lib.Dec.{eqb, leb}
+use lib.Dec.{eqb, leb, ltb}
 use lib.ListN.{length}
+use Rattle.algebra.specs.Lists.{entryOf}
 use Rattle.algebra.specs.Xor.{_⊕_}
 use Rattle.refusals.specs.Answered.{value-or-refused, value-none, refused-leaves, refused-due, holds-given, done-apart, same-outcome}
 use Rattle.refusals.specs.Answered.{counted-apart, same-counted}
@@ -62,6 +63,11 @@ use Rattle.rows.specs.Laws.{read-apart, same-reading}
 use Rattle.simulation.specs.Steps.{Steps, stepCount, stepRules, rulesAt, stepsRules}
 use Rattle.simulation.specs.Ride.{rideCounts}
 use Rattle.simulation.specs.Answers.{rideLengths, marksLong, startRules, rideRules, rideFault, rideAnswer, startFault, rideAfter}
+use Rattle.scheduler.specs.declared.Dash.{Dash}
+use Rattle.scheduler.specs.State.{State, allWords, dashRules, offerRules, stateRules}
+use Rattle.scheduler.specs.Answers.{startLengths, startFault as sendersFault, startAnswer as sendersAnswer, startWaiting, startNext}
+use Rattle.scheduler.specs.Answers.{offerLengths, offerFault, offerAnswer, offerWaiting, offerWords}
+use Rattle.scheduler.specs.Answers.{roundLengths, roundWords, roundFault, roundAnswer, waitingAfter, nextAfter, answersAfter, handedAfter}
 use Rattle.listing.specs.Answers.{roomRules, sheetListing, listingFault, listingAnswer, listingAfter}
 use Rattle.listing.specs.Answers.{storedAnswer, storedAfter, printedText, printedAnswer, printedAfter}
 use Rattle.sheets.specs.Fault.{sheetRules}
@@ -459,6 +465,68 @@ module _ (c : Parameters) (h : List ℕ) (s : Setting) (σ : Steps) (counts : Li
       (step-parts-are (places c s) σ (stepCount σ) ∙ ap (λ (n : ℕ). stepsRules n σ (stepCount σ)) (sym (length-columns c s)))
       (setting-refuses c h Refused Done done-apart same-outcome s (rideLengths σ counts) (marksLong σ (places c s)) (start ∷ steps)
       (step-parts-rise (places c s) σ (stepCount σ)))
+
+-- ---- several senders: 18 and 19 "come after 15 and before 8, 18 first"
+
+module _ (c : Parameters) (h : List ℕ) (s : Setting) (d : Dash) where
+  pub senders-start-unchanged : (waiting next : List ℕ) {k : ℕ} → sendersAnswer c h s d waiting next ≡ Refused k
+      → (startWaiting c h s d waiting next ≡ waiting) × (startNext c h s d waiting next ≡ next)
+  unfolding sendersAnswer startWaiting startNext
+  senders-start-unchanged waiting next e = (
+    refused-leaves Refused Done done-apart (sendersFault c h s d waiting next) waiting _ e,
+    refused-leaves Refused Done done-apart (sendersFault c h s d waiting next) next _ e,
+  )
+
+  pub senders-start-refuses : (waiting next : List ℕ) → RefusesInOrder (sendersAnswer c h s d waiting next) Refused Done
+      (settingParts c h s (startLengths d waiting next) true ++ dashRules d ∷ [])
+  unfolding sendersAnswer sendersFault dashRules
+  senders-start-refuses waiting next =
+      setting-refuses c h Refused Done done-apart same-outcome s (startLengths d waiting next) true (dashRules d ∷ []) refl
+
+  module _ (sender : ℕ) (word waiting words : List ℕ) where
+    -- 18 and 19, then 8
+    abbrev pub offerParts : List (List Rule)
+    offerParts =
+        (dashRules d ++ (18 unless ltb sender (d .senders)) ∷ (19 unless eqb (entryOf waiting sender) 0) ∷ []) ∷ ((8 unless allBits word) ∷ []) ∷ []
+
+    pub senders-offer-unchanged : {k : ℕ} → offerAnswer c h s d sender word waiting words ≡ Refused k
+        → (offerWaiting c h s d sender word waiting words ≡ waiting) × (offerWords c h s d sender word waiting words ≡ words)
+    unfolding offerAnswer offerWaiting offerWords
+    senders-offer-unchanged e = (
+      refused-leaves Refused Done done-apart (offerFault c h s d sender word waiting words) waiting _ e,
+      refused-leaves Refused Done done-apart (offerFault c h s d sender word waiting words) words _ e,
+    )
+
+    pub senders-offer-refuses : RefusesInOrder (offerAnswer c h s d sender word waiting words) Refused Done
+        (settingParts c h s (eqb (length waiting) (d .senders)) (offerLengths d word words (places c s)) ++ offerParts)
+    unfolding offerAnswer offerFault dashRules offerRules
+    senders-offer-refuses =
+        setting-refuses c h Refused Done done-apart same-outcome s (eqb (length waiting) (d .senders)) (offerLengths d word words (places c s))
+        offerParts refl
+
+  module _ (σ : State) (answers handed : List ℕ) where
+    -- 18, then 8
+    abbrev pub roundParts : List (List Rule)
+    roundParts =
+        (dashRules d ++ (18 unless ltb (entryOf (σ .next) 0) (d .senders)) ∷ [])
+        ∷ ((8 unless allBits (σ .waiting)) ∷ (8 unless allWords (length (columnsOf c s)) (σ .waiting) (σ .words) (d .senders)) ∷ []) ∷ []
+
+    pub senders-round-unchanged : {k : ℕ} → roundAnswer c h s d σ answers handed ≡ Refused k
+        → (waitingAfter c h s d σ answers handed ≡ σ .waiting) × (nextAfter c h s d σ answers handed ≡ σ .next)
+        × (answersAfter c h s d σ answers handed ≡ answers) × (handedAfter c h s d σ answers handed ≡ handed)
+    unfolding roundAnswer waitingAfter nextAfter answersAfter handedAfter
+    senders-round-unchanged e = (
+      refused-leaves Refused Done done-apart (roundFault c h s d σ answers handed) (σ .waiting) _ e,
+      refused-leaves Refused Done done-apart (roundFault c h s d σ answers handed) (σ .next) _ e,
+      refused-leaves Refused Done done-apart (roundFault c h s d σ answers handed) answers _ e,
+      refused-leaves Refused Done done-apart (roundFault c h s d σ answers handed) handed _ e,
+    )
+
+    pub senders-round-refuses : RefusesInOrder (roundAnswer c h s d σ answers handed) Refused Done
+        (settingParts c h s (roundLengths d σ answers) (roundWords d σ handed (places c s)) ++ roundParts)
+    unfolding roundAnswer roundFault dashRules stateRules
+    senders-round-refuses =
+        setting-refuses c h Refused Done done-apart same-outcome s (roundLengths d σ answers) (roundWords d σ handed (places c s)) roundParts refl
 
 -- ---- sheets: 13 "comes first of all"
 

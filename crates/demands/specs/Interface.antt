@@ -35,7 +35,7 @@ use Rattle.formula.specs.Answers.{lentRules, readingRules, formulaRules, formul
 use Rattle.signature.specs.Tests.{signatureRules}
 use Rattle.params.specs.declared.Parameters.{Parameters}
 use Rattle.params.specs.Accepted.{n-short}
-use Rattle.params.specs.Code.{shapeRules, codeRules, codeFault}
+use Rattle.params.specs.Code.{Accepted, shapeRules, codeRules, codeFault}
 use Rattle.essence.specs.Answers.{shapeRules as essenceShapeRules, essenceRules, essenceFault, essenceAnswer}
 use Rattle.essence.specs.Answers.{valueRules, signatureFault, signatureAnswer}
 use Rattle.codes.specs.declared.Sameness.the-variants.{Refused as NotCompared}
@@ -45,7 +45,8 @@ use Rattle.codes.specs.Same.{sameCode}
 use Rattle.parity.specs.Columns.{dimension}
 use Rattle.parity.specs.ColumnLaws.{dimension-le}
 use Rattle.columns.specs.Setting.{Setting, Setting.wholeCode, Setting.selection, places, columnsOf, selectionRules, settingRules}
-use Rattle.columns.specs.SettingLaws.{setting-accepted, length-columns, places-short}
+use Rattle.columns.specs.Fits.{Fits}
+use Rattle.columns.specs.SettingLaws.{setting-accepted, length-columns, places-short, fits-columns}
 use Rattle.messages.specs.MessageRules.{messageRules}
 use Rattle.words.specs.Answers.{bitRules, rolesFault, rolesAnswer, syndromeFault, syndromeAnswer}
 use Rattle.words.specs.Answers.{encodeFault, encodeAnswer, messageFault, messageAnswer}
@@ -65,13 +66,20 @@ use Rattle.lines.specs.Lengths.{length-listing}
 use Rattle.listing.specs.Answers.{roomRules, sheetListing, listingFault, listingAnswer}
 use Rattle.wire.specs.Wire.{minus, elementCode, outcomeCode, samenessCode, countedCode, recoveryCode, readingCode}
 use Rattle.wire.specs.Readings.{reading-whole}
+use Rattle.parity.specs.Selected.{columns-short}
+use Rattle.repair.specs.Decoding.{wordAnswer}
+use Rattle.scheduler.specs.declared.Dash.{Dash}
+use Rattle.scheduler.specs.State.{State, dashRules, offerRules, stateRules}
+use Rattle.scheduler.specs.Round.{none}
+use Rattle.scheduler.specs.Answers.{startLengths, startFault, startAnswer, offerLengths, offerFault, offerAnswer}
+use Rattle.scheduler.specs.Answers.{roundLengths, roundWords, roundRules, roundFault, roundAnswer}
 use Rattle.demands.specs.Lowest.{upTo, fault-up-to, up-to-both}
 use Rattle.demands.specs.Outcomes.{element-apart, same-element, repaired-apart, same-recovery}
 use Rattle.demands.specs.Outcomes.{compared-apart, same-sameness}
 
 -- the greatest number of 01's table
 abbrev pub greatestNumber : ℕ
-greatestNumber = 17
+greatestNumber = 19
 
 -- C reads a value as it is, and a refusal as a negative number
 abbrev pub IsValue : ℕ → Type 0
@@ -221,6 +229,27 @@ module _ (c : Parameters) (h : List ℕ) (s : Setting) where
       (subst (λ (k : ℕ). turnedCount c h (columnsOf c s) received ≤ k) (length-columns c s)
       (count-le (length (columnsOf c s)) (differs received (repairedOf c h (columnsOf c s) received)))))
 
+  -- ---- several senders
+
+  senders-start-told : (d : Dash) (waiting next : List ℕ) → ToldApart outcomeCode (startAnswer c h s d waiting next) Refused Done
+  unfolding startAnswer startFault dashRules
+  senders-start-told d waiting next =
+      outcome-told (settingRules c h s (startLengths d waiting next) true ++ dashRules d) (in-table c h s _ _ (dashRules d) refl)
+
+  senders-offer-told : (d : Dash) (sender : ℕ) (word waiting words : List ℕ)
+      → ToldApart outcomeCode (offerAnswer c h s d sender word waiting words) Refused Done
+  unfolding offerAnswer offerFault dashRules offerRules
+  senders-offer-told d sender word waiting words =
+      let own = dashRules d ++ offerRules d sender word waiting in
+      outcome-told (settingRules c h s (eqb (length waiting) (d .senders)) (offerLengths d word words (places c s)) ++ own)
+      (in-table c h s _ _ own refl)
+
+  senders-round-told : (d : Dash) (σ : State) (answers handed : List ℕ) → ToldApart outcomeCode (roundAnswer c h s d σ answers handed) Refused Done
+  unfolding roundAnswer roundFault dashRules stateRules
+  senders-round-told d σ answers handed =
+      let own = roundRules d σ (columnsOf c s) in
+      outcome-told (settingRules c h s (roundLengths d σ answers) (roundWords d σ handed (places c s)) ++ own) (in-table c h s _ _ own refl)
+
   -- a row that is read, and a refusal
   abbrev ReadToldApart : List ℕ → List ℕ → Type 0
   ReadToldApart received repaired =
@@ -268,6 +297,17 @@ module _ (c : Parameters) (h : List ℕ) where
   pub zov-ride : (σ : Steps) (counts : List ℕ) → ToldApart outcomeCode (rideAnswer c h wholeCode σ counts) Refused Done
   zov-ride = ride-told c h wholeCode
 
+  pub zov-senders-start : (d : Dash) (waiting next : List ℕ) → ToldApart outcomeCode (startAnswer c h wholeCode d waiting next) Refused Done
+  zov-senders-start = senders-start-told c h wholeCode
+
+  pub zov-senders-offer : (d : Dash) (sender : ℕ) (word waiting words : List ℕ)
+      → ToldApart outcomeCode (offerAnswer c h wholeCode d sender word waiting words) Refused Done
+  zov-senders-offer = senders-offer-told c h wholeCode
+
+  pub zov-senders-round : (d : Dash) (σ : State) (answers handed : List ℕ)
+      → ToldApart outcomeCode (roundAnswer c h wholeCode d σ answers handed) Refused Done
+  zov-senders-round = senders-round-told c h wholeCode
+
   module _ (blocks shifts : List ℕ) where
     abbrev chosen : Setting
     chosen = selection blocks shifts
@@ -294,6 +334,26 @@ module _ (c : Parameters) (h : List ℕ) where
 
     pub zov-selection-read-row : (received repaired : List ℕ) → ReadToldApart c h chosen received repaired
     zov-selection-read-row = read-row-told c h chosen
+
+-- ---- answers by sender: what repair answers is never taken for "no word left"
+
+pub recovery-apart : {c : Parameters} {h : List ℕ} → Accepted c h → (s : Setting) → Fits c s → (received : List ℕ)
+    → recoveryCode (wordAnswer c h (columnsOf c s) received) ≢ none
+unfolding wordAnswer turnedCount distance wordRules unless-refused
+recovery-apart {c} {h} A s F received =
+    let cols = columnsOf c s in
+    told (fault (wordRules c h cols received)) (fault-up-to greatestNumber (wordRules c h cols received) refl)
+    (count-le (length cols) (differs received (repairedOf c h cols received)))
+  where
+    told : (k : ℕ) → k ≤ greatestNumber → {x : ℕ} → x ≤ length (columnsOf c s) → recoveryCode (unless-refused k NotRepaired (Repaired x)) ≢ none
+    told zero small few e = absurd (omega (arith, columns-short (fits-columns A s F)))
+    told (suc k) small few e = absurd (below (minus-refused k small) e)
+      where
+        minus-refused : (k : ℕ) → suc k ≤ greatestNumber → minus (suc k) ≡ 2 ^ 32 - suc k
+        minus-refused k l = mod-eq-of-lt (omega arith)
+
+        below : {x : ℕ} → x ≡ 2 ^ 32 - suc k → x ≡ none → ⊥
+        below p q = omega arith
 
 -- ---- elements
 

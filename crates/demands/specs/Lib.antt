@@ -18,4 +18,7 @@ pub mod AllBlocks
 pub mod Offsets
 pub mod Selections
 pub mod Interface
+pub mod Senders
+pub mod Reached
+pub mod Waiting
 pub mod Sheet

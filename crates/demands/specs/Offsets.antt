@@ -1,5 +1,5 @@
 -- Offsets count: codes are the same only if ω agrees as well. Beside it, what travels on the wire does not depend on ω: two accepted codes that
--- differ in it alone answer every call on words alike, for the whole code and for every selection, and every ride.
+-- differ in it alone answer every call on words alike, for the whole code and for every selection, every ride and every dash with several senders.
 use mathlib.Core.Path.{_≡_, refl, sym, ap, ap₂, _∙_, subst}
 use mathlib.Core.Logic.{_≢_, _↔_}
 use mathlib.Core.Bool.{Bool, _&&_}

@@ -1,14 +1,17 @@
--- When no call on words, and no ride, tells two codes apart, each at a setting.
+-- When no call on words, no ride and no dash with several senders tells two codes apart, each at a setting.
 --
 -- The calls depend on the code and on the setting by the rules that are looked at before the call's own, by the number of roots, which is the length
 -- of a syndrome, and by the parity check matrix. Where these are the same, the calls answer alike.
-use mathlib.Core.Path.{_≡_, refl, ap, ap₂, _∙_, fun-ext}
-use mathlib.Core.Bool.{Bool, true, _&&_}
+use mathlib.Core.Path.{_≡_, refl, sym, ap, ap₂, _∙_, fun-ext}
+use mathlib.Core.Bool.{Bool, true, cond, not, _&&_, _||_}
 use mathlib.Core.List.{List, [], _∷_, _++_}
 use Prim.Native.Nat.{ℕ}
 use lib.Dec.{eqb, leb}
-use lib.ListN.{length}
+use lib.ListN.{length, set, replicate}
+use Rattle.algebra.specs.Lists.{entryOf}
+use Rattle.algebra.specs.Parts.{part, withPart, joined}
 use Rattle.algebra.specs.Places.{count}
+use Rattle.algebra.specs.Tabulate.{tabulate}
 use Rattle.refusals.specs.declared.Counted.the-variants.{Count, Refused as NotCounted}
 use Rattle.refusals.specs.declared.Outcome.the-variants.{Done, Refused}
 use Rattle.refusals.specs.Rules.{Rule, _unless_, fault, unless-refused}
@@ -17,11 +20,11 @@ use Rattle.slices.specs.Bits.{allBits}
 use Rattle.params.specs.declared.Parameters.{Parameters}
 use Rattle.parity.specs.Columns.{rolesOf, dimension, messageOf, encodingOf}
 use Rattle.parity.specs.SameMatrix.{SameMatrix}
-use Rattle.parity.specs.SameMatrixLaws.{same-syndrome, same-roles, same-dimension, same-messages, same-encoding}
-use Rattle.parity.specs.Word.{syndromeOf}
+use Rattle.parity.specs.SameMatrixLaws.{same-syndrome, same-code-words, same-roles, same-dimension, same-messages, same-encoding}
+use Rattle.parity.specs.Word.{syndromeOf, isCodeWord}
 use Rattle.columns.specs.Fits.{Fits}
 use Rattle.columns.specs.Setting.{Setting, places, columnsOf, settingRules}
-use Rattle.columns.specs.SettingLaws.{setting-numbered, setting-accepted}
+use Rattle.columns.specs.SettingLaws.{setting-numbered, setting-accepted, length-columns}
 use Rattle.messages.specs.MessageRules.{messageRules}
 use Rattle.words.specs.Answers.{bitRules, rolesFault, rolesAnswer, rolesAfter, syndromeFault, syndromeAnswer, syndromeAfter}
 use Rattle.words.specs.Answers.{encodeFault, encodeAnswer, encodeAfter, messageFault, messageAnswer, messageAfter}
@@ -29,8 +32,10 @@ use Rattle.gears.specs.Rows.{isRow, rowBits, rowMessage, gearIn, lampIn, isRowM
 use Rattle.nearest.specs.SameRepair.{same-repairable, same-repaired}
 use Rattle.nearest.specs.Repair.{distance, repairedOf}
 use Rattle.nearest.specs.Turned.{turned}
+use Rattle.repair.specs.declared.Recovery.{Recovery}
 use Rattle.repair.specs.declared.Recovery.the-variants.{Repaired, Refused as NotRepaired}
 use Rattle.repair.specs.Answers.{wordRules, turnedCount, repairFault, repairAnswer, repairAfter}
+use Rattle.repair.specs.Decoding.{wordAnswer, wordAfter}
 use Rattle.rows.specs.declared.Reading.{Reading}
 use Rattle.rows.specs.declared.Reading.the-variants.{Read, Refused as NotRead}
 use Rattle.rows.specs.Answers.{writeRules, rowWord, carried, readRules, rowRead, readingAnswer}
@@ -40,6 +45,14 @@ use Rattle.simulation.specs.Steps.{Steps, stepCount, gearAt, lampAt, marksAt, s
 use Rattle.simulation.specs.Ride.{verdictOf, isRight, isHeld, isWrong, isMarked, stepWord, stepVerdict, verdictAt}
 use Rattle.simulation.specs.Ride.{verdictCount, countsUpTo, rideCounts}
 use Rattle.simulation.specs.Answers.{rideLengths, marksLong, startRules, rideRules, rideFault, rideAnswer, startFault, rideAfter}
+use Rattle.turns.specs.Turns.{isTried, nextTurn}
+use Rattle.wire.specs.Wire.{recoveryCode}
+use Rattle.scheduler.specs.declared.Dash.{Dash}
+use Rattle.scheduler.specs.State.{State, waits, wordAt, turn, dashRules, offerRules, stateRules}
+use Rattle.scheduler.specs.Round.{none, isWhole, isOther, leaves, answerAt, waitingAt, handedAt, roundWaiting, roundNext, roundAnswers, roundHanded}
+use Rattle.scheduler.specs.Answers.{startLengths, startFault as beganFault, startAnswer, startWaiting, startNext}
+use Rattle.scheduler.specs.Answers.{offerLengths, offerFault, offerAnswer, offerWaiting, offerWords}
+use Rattle.scheduler.specs.Answers.{roundLengths, roundWords, roundRules, roundFault, roundAnswer, waitingAfter, nextAfter, answersAfter, handedAfter}
 use Rattle.demands.specs.Alike.{Alike}
 
 -- ---- the calls' own rules and values come from the matrix
@@ -112,6 +125,67 @@ module _ {c₁ c₂ : Parameters} {h₁ cols₁ h₂ cols₂ : List ℕ} (M : Sa
       counted : ℕ → (ℕ → Verdict) → List ℕ
       counted n v = count (stepCount σ) (isMade n σ) ∷ ended isRight n v ∷ ended isHeld n v ∷ ended isWrong n v ∷ []
 
+  -- ---- a round
+
+  code-words : isCodeWord c₁ h₁ cols₁ ≡ isCodeWord c₂ h₂ cols₂
+  code-words = fun-ext (same-code-words M)
+
+  others : (d : Dash) (σ : State) → isOther c₁ h₁ cols₁ d σ ≡ isOther c₂ h₂ cols₂ d σ
+  unfolding isOther
+  others d σ =
+      ap₂ (λ (n : ℕ) (f : List ℕ → Bool). λ (p : ℕ). waits σ p && not (f (wordAt n σ p))) (M .columns) code-words
+
+  leaving : (d : Dash) (σ : State) → leaves c₁ h₁ cols₁ d σ ≡ leaves c₂ h₂ cols₂ d σ
+  unfolding leaves isWhole
+  leaving d σ =
+      ap₂ (λ (n : ℕ) (f : List ℕ → Bool).
+      λ (p : ℕ). (waits σ p && f (wordAt n σ p)) || isTried (d .senders) (turn σ) (d .repairs) (isOther c₁ h₁ cols₁ d σ) p)
+      (M .columns) code-words
+      ∙ ap (λ (g : ℕ → Bool). λ (p : ℕ). isWhole c₂ h₂ cols₂ d σ p || isTried (d .senders) (entryOf (σ .next) 0) (d .repairs) g p) (others d σ)
+
+  word-answer : wordAnswer c₁ h₁ cols₁ ≡ wordAnswer c₂ h₂ cols₂
+  unfolding wordAnswer
+  word-answer =
+      fun-ext
+      (λ w. ap₂ (λ (rules : List Rule) (k : ℕ). unless-refused (fault rules) NotRepaired (Repaired k)) (word-rules w) (turned-count w))
+
+  word-after : wordAfter c₁ h₁ cols₁ ≡ wordAfter c₂ h₂ cols₂
+  unfolding wordAfter
+  word-after =
+      fun-ext
+      (λ w.
+      ap₂ (λ (rules : List Rule) (x : List ℕ). λ (old : List ℕ). unless-refused (fault rules) (λ k. old) x) (word-rules w) (same-repaired M w))
+
+  round-waiting : (d : Dash) (σ : State) → roundWaiting c₁ h₁ cols₁ d σ ≡ roundWaiting c₂ h₂ cols₂ d σ
+  unfolding roundWaiting waitingAt
+  round-waiting d σ = ap (λ (g : ℕ → Bool). tabulate (d .senders) (λ p. cond (g p) 0 (entryOf (σ .waiting) p))) (leaving d σ)
+
+  round-next : (d : Dash) (σ : State) → roundNext c₁ h₁ cols₁ d σ ≡ roundNext c₂ h₂ cols₂ d σ
+  unfolding roundNext
+  round-next d σ = ap (λ (g : ℕ → Bool). nextTurn (d .senders) (entryOf (σ .next) 0) (d .repairs) g ∷ []) (others d σ)
+
+  round-answers : (d : Dash) (σ : State) → roundAnswers c₁ h₁ cols₁ d σ ≡ roundAnswers c₂ h₂ cols₂ d σ
+  unfolding roundAnswers answerAt
+  round-answers d σ =
+      ap (λ (g : ℕ → Bool).
+      tabulate (d .senders) (λ p. cond (g p) (recoveryCode (wordAnswer c₁ h₁ cols₁ (wordAt (length cols₁) σ p))) none)) (leaving d σ)
+      ∙ ap₂ (λ (n : ℕ) (f : List ℕ → Recovery).
+      tabulate (d .senders) (λ p. cond (leaves c₂ h₂ cols₂ d σ p) (recoveryCode (f (wordAt n σ p))) none)) (M .columns) word-answer
+
+  round-handed : (d : Dash) (σ : State) (handed : List ℕ) → roundHanded c₁ h₁ cols₁ d σ handed ≡ roundHanded c₂ h₂ cols₂ d σ handed
+  unfolding roundHanded handedAt
+  round-handed d σ handed =
+      ap (λ (g : ℕ → Bool).
+      joined (d .senders)
+      (λ p. cond (g p) (wordAfter c₁ h₁ cols₁ (wordAt (length cols₁) σ p) (part (length cols₁) handed p)) (part (length cols₁) handed p)))
+      (leaving d σ)
+      ∙ ap₂ (λ (n : ℕ) (f : List ℕ → List ℕ → List ℕ).
+      joined (d .senders) (λ p. cond (leaves c₂ h₂ cols₂ d σ p) (f (wordAt n σ p) (part n handed p)) (part n handed p)))
+      (M .columns) word-after
+
+  round-rules : (d : Dash) (σ : State) → roundRules d σ cols₁ ≡ roundRules d σ cols₂
+  round-rules d σ = ap (λ (n : ℕ). dashRules d ++ stateRules d n σ) (M .columns)
+
 -- ---- the calls
 
 -- what it takes: as many roots; the same number from the rules before the calls' own, `words` being the test of the words' lengths; and, where the
@@ -121,6 +195,15 @@ pub record Matched (c₁ : Parameters) (h₁ : List ℕ) (s₁ : Setting) (c₂ 
   pub due : (others : Bool) (words : ℕ → Bool)
       → fault (settingRules c₁ h₁ s₁ others (words (places c₁ s₁))) ≡ fault (settingRules c₂ h₂ s₂ others (words (places c₂ s₂)))
   pub matrix : Fits c₁ s₁ → SameMatrix c₁ h₁ (columnsOf c₁ s₁) c₂ h₂ (columnsOf c₂ s₂)
+
+-- the words after an offer, by the number of columns
+by-places : (c : Parameters) (h : List ℕ) (s : Setting) (d : Dash) (sender : ℕ) (word waiting words : List ℕ)
+    → offerWords c h s d sender word waiting words
+    ≡ unless-refused (offerFault c h s d sender word waiting words) (λ k. words) (withPart (length (columnsOf c s)) words sender word)
+unfolding offerWords
+by-places c h s d sender word waiting words =
+    ap (λ (n : ℕ). unless-refused (offerFault c h s d sender word waiting words) (λ k. words) (withPart n words sender word))
+    (sym (length-columns c s))
 
 -- what a call takes from a code and its columns
 abbrev Of : Type 0 → Type 0
@@ -175,6 +258,8 @@ module _ {c₁ c₂ : Parameters} {h₁ h₂ : List ℕ} {s₁ s₂ : Setting} (
   pub answered-alike : Alike c₁ h₁ s₁ c₂ h₂ s₂
   unfolding rolesAnswer rolesAfter syndromeAnswer syndromeAfter encodeFault encodeAnswer encodeAfter messageFault messageAnswer messageAfter
       repairFault repairAnswer repairAfter writeFault writeAnswer writeAfter readFault readAnswer readAfter rideFault rideAnswer startFault rideAfter
+      beganFault startAnswer startWaiting startNext offerFault offerAnswer offerWaiting offerWords
+      roundFault roundAnswer waitingAfter nextAfter answersAfter handedAfter
   answered-alike =
       record {
         roles = λ out. (
@@ -222,4 +307,33 @@ module _ {c₁ c₂ : Parameters} {h₁ h₂ : List ℕ} {s₁ s₂ : Setting} (
           call (rideLengths σ counts) (marksLong σ) (λ c h cols. rideRules c h cols σ) Refused (λ c h cols. Done) (λ M. ride-rules M σ) (λ M. refl),
           call (rideLengths σ counts) (marksLong σ) startRules (λ k. counts) (λ c h cols. rideCounts c h cols σ) start-rules (λ M. ride-counts M σ),
         );
+        start = λ d waiting next.
+            let lengths : Bool = startLengths d waiting next in
+            let own : Of (List Rule) = λ c h cols. dashRules d in (
+              call lengths (λ n. true) own Refused (λ c h cols. Done) (λ M. refl) (λ M. refl),
+              call lengths (λ n. true) own (λ k. waiting) (λ c h cols. replicate (d .senders) 0) (λ M. refl) (λ M. refl),
+              call lengths (λ n. true) own (λ k. next) (λ c h cols. 0 ∷ []) (λ M. refl) (λ M. refl),
+            );
+        offer = λ d sender word waiting words.
+            let others : Bool = eqb (length waiting) (d .senders) in
+            let lengths : ℕ → Bool = offerLengths d word words in
+            let own : Of (List Rule) = λ c h cols. dashRules d ++ offerRules d sender word waiting in (
+              call others lengths own Refused (λ c h cols. Done) (λ M. refl) (λ M. refl),
+              call others lengths own (λ k. waiting) (λ c h cols. set waiting sender 1) (λ M. refl) (λ M. refl),
+              by-places c₁ h₁ s₁ d sender word waiting words
+                  ∙ call others lengths own (λ k. words) (λ c h cols. withPart (length cols) words sender word) (λ M. refl)
+                  (λ M. ap (λ (n : ℕ). withPart n words sender word) (M .columns))
+                  ∙ sym (by-places c₂ h₂ s₂ d sender word waiting words),
+            );
+        round = λ d σ answers handed.
+            let others : Bool = roundLengths d σ answers in
+            let lengths : ℕ → Bool = roundWords d σ handed in
+            let own : Of (List Rule) = λ c h cols. roundRules d σ cols in
+            let same-own : FromMatrix own = λ M. round-rules M d σ in (
+              call others lengths own Refused (λ c h cols. Done) same-own (λ M. refl),
+              call others lengths own (λ k. σ .waiting) (λ c h cols. roundWaiting c h cols d σ) same-own (λ M. round-waiting M d σ),
+              call others lengths own (λ k. σ .next) (λ c h cols. roundNext c h cols d σ) same-own (λ M. round-next M d σ),
+              call others lengths own (λ k. answers) (λ c h cols. roundAnswers c h cols d σ) same-own (λ M. round-answers M d σ),
+              call others lengths own (λ k. handed) (λ c h cols. roundHanded c h cols d σ handed) same-own (λ M. round-handed M d σ handed),
+            );
       }

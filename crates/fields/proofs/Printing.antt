@@ -6,7 +6,8 @@ use native.Mathlib.Nat.{add-suc, add-zero}
 use native.Mathlib.Numerals.{add-one}
 use native.Mathlib.Omega.{arith}
 use lib.ListN.{length, set}
-use Rattle.fields.specs.Fields.{fieldWidth, lineEnd, digitByte, leadByte, leadText, numberText, joined, fieldText, lineText}
+use Rattle.algebra.specs.Parts.{joined}
+use Rattle.fields.specs.Fields.{fieldWidth, lineEnd, digitByte, leadByte, leadText, numberText, fieldText, lineText}
 use Rattle.fields.specs.Reading.{length-lead, length-fields}
 use Rattle.fields.specs.Written.{written, written-none, written-one, written-more, written-front, length-written}
 

@@ -7,6 +7,7 @@ use lib.ListN.{length}
 use Rattle.algebra.specs.All.{all}
 use Rattle.algebra.specs.Tabulate.{tabulate}
 use Rattle.algebra.specs.Lists.{entryOf}
+use Rattle.algebra.specs.Parts.{joined}
 
 -- 01: "Sheet numbers, that of a refusal too, take six columns and run to 65535"
 abbrev pub fieldWidth : ℕ
@@ -60,11 +61,6 @@ unfoldable pub isNumber : List ℕ → ℕ → Bool
 isNumber text p = leb (numberAt text p) greatest && holdsAt text p (numberText (numberAt text p))
 
 -- ---- lines
-
--- texts one after the other
-unfoldable pub joined : ℕ → (ℕ → List ℕ) → List ℕ
-joined zero f = []
-joined (suc n) f = joined n f ++ f n
 
 -- the field of the i-th number of a line
 abbrev pub fieldText : List ℕ → ℕ → List ℕ

@@ -3,13 +3,13 @@ use mathlib.Core.Path.{_≡_, refl, sym, ap, ap₂, _∙_, subst}
 use mathlib.Core.Bool.{true, _&&_}
 use mathlib.Core.List.{List, [], _∷_, _++_}
 use Prim.Native.Nat.{ℕ, zero, suc, _+_, _-_, _*_, _/_, _%_, _^_, _≤_, _<_}
-use native.Mathlib.Nat.{not-suc-le-zero, zero-add, add-assoc, zero-mul, suc-mul, pow-suc, lt-of-le-of-lt}
+use native.Mathlib.Nat.{zero-add, add-assoc, pow-suc, lt-of-le-of-lt}
 use native.Mathlib.Numerals.{add-one}
 use native.Mathlib.Decide.{decLt}
 use native.Mathlib.Omega.{arith}
 use lib.Dec.{leb, eqb, lit<}
 use lib.ListN.{length, length-append, List·getD-append}
-use lib.Seq.{getD-at, getD-append-add, ext-getD}
+use lib.Seq.{getD-at, ext-getD}
 use borrow.Author.Tests.{leb-true, le-leb, eqb-true, eq-eqb}
 use Rattle.algebra.specs.All.{all}
 use Rattle.algebra.specs.AllLaws.{all-is, all-true}
@@ -17,8 +17,10 @@ use Rattle.algebra.specs.Flags.{both-true, both-hold}
 use Rattle.algebra.specs.Tabulate.{tabulate}
 use Rattle.algebra.specs.TabulateLaws.{length-tabulate, getD-tabulate}
 use Rattle.algebra.specs.Lists.{entryOf}
+use Rattle.algebra.specs.Parts.{joined}
+use Rattle.algebra.specs.PartLaws.{length-joined, joined-at}
 use Rattle.fields.specs.Fields.{fieldWidth, greatest, digitByte, leadByte, leadText, numberText, valueOf, numberAt, holdsAt, isNumber}
-use Rattle.fields.specs.Fields.{joined, lineEnd, fieldText, lineText, lineLength, numbersAt, isLine, Small}
+use Rattle.fields.specs.Fields.{lineEnd, fieldText, lineText, lineLength, numbersAt, isLine, Small}
 
 -- ---- numbers
 
@@ -105,33 +107,9 @@ number-only text long number =
 
 -- ---- lines
 
--- texts of one length, one after the other
-pub length-joined : (w : ℕ) (f : ℕ → List ℕ) → ((i : ℕ) → length (f i) ≡ w) → (k : ℕ) → length (joined k f) ≡ k * w
-unfolding joined
-length-joined w f wide zero = sym (zero-mul w)
-length-joined w f wide (suc k) =
-    length-append (joined k f) (f k) ∙ ap₂ (λ (x y : ℕ). x + y) (length-joined w f wide k) (wide k) ∙ sym (suc-mul k w)
-
-module _ (f : ℕ → List ℕ) (wide : (i : ℕ) → length (f i) ≡ fieldWidth) where
-  joined-at : (k i c : ℕ) → i < k → c < fieldWidth → entryOf (joined k f) (i * fieldWidth + c) ≡ entryOf (f i) c
-  unfolding joined
-  joined-at zero i c l lc = absurd (not-suc-le-zero l)
-  joined-at (suc k) i c l lc = decided (decLt i k) (λ li. joined-at k i c li lc)
-    where
-      decided : Dec (i < k) → (i < k → entryOf (joined k f) (i * fieldWidth + c) ≡ entryOf (f i) c)
-          → entryOf (joined k f ++ f k) (i * fieldWidth + c) ≡ entryOf (f i) c
-      decided (yes li) ih =
-          List·getD-append (joined k f) (f k) 0 (i * fieldWidth + c)
-          (subst (λ (x : ℕ). i * fieldWidth + c < x) (sym (length-joined fieldWidth f wide k)) (omega arith)) ∙ ih li
-      decided (no nl) ih =
-          let last : k ≡ i = omega arith in
-          ap₂ (λ (x y : ℕ). entryOf (joined k f ++ f y) (x + c))
-          (ap (λ (j : ℕ). j * fieldWidth) (sym last) ∙ sym (length-joined fieldWidth f wide k)) last
-          ∙ getD-append-add (joined k f) (f i) c 0
-
 module _ (numbers : List ℕ) where
   pub length-fields : (k : ℕ) → length (joined k (fieldText numbers)) ≡ k * fieldWidth
-  length-fields = length-joined fieldWidth (fieldText numbers) (λ i. length-number (entryOf numbers i))
+  length-fields k = length-joined fieldWidth (fieldText numbers) k (λ i l. length-number (entryOf numbers i))
 
   abbrev fields : List ℕ
   fields = joined (length numbers) (fieldText numbers)
@@ -145,7 +123,7 @@ module _ (numbers : List ℕ) where
   line-number i c l lc =
       List·getD-append fields (lineEnd ∷ []) 0 (i * fieldWidth + c)
       (subst (λ (x : ℕ). i * fieldWidth + c < x) (sym (length-fields (length numbers))) (omega arith))
-      ∙ joined-at (fieldText numbers) (λ i. length-number (entryOf numbers i)) (length numbers) i c l lc
+      ∙ joined-at fieldWidth (fieldText numbers) (length numbers) (λ i l. length-number (entryOf numbers i)) i c l lc
 
   line-ended : entryOf (lineText numbers) (length numbers * fieldWidth) ≡ lineEnd
   unfolding lineText

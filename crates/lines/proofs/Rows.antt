@@ -5,6 +5,7 @@ use Prim.Native.Nat.{ℕ, _+_, _≤_}
 use native.Mathlib.Nat.{le-of-eq}
 use lib.ListN.{length, take, replicate}
 use lib.Seq.{length-take-le}
+use Rattle.algebra.specs.Parts.{joined}
 use Rattle.algebra.specs.Tabulate.{tabulate}
 use Rattle.slices.specs.Lengths.{longest}
 use Rattle.params.specs.declared.Parameters.{Parameters}
@@ -14,7 +15,7 @@ use Rattle.signature.specs.Inverses.{Inverted, added}
 use Rattle.signature.proofs.Stored.{support-is}
 use Rattle.parity.specs.Word.{whole}
 use Rattle.parity.specs.Columns.{rolesOf, messageLength}
-use Rattle.fields.specs.Fields.{joined, lineLength}
+use Rattle.fields.specs.Fields.{lineLength}
 use Rattle.fields.specs.Written.{written, written-more, written-over}
 use Rattle.fields.specs.Over.{over}
 use Rattle.lines.specs.Listing.{codeLine, columnLine, linesText, supportOf, listingText, listingLength}

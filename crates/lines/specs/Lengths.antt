@@ -4,9 +4,11 @@ use mathlib.Core.List.{List, [], _∷_}
 use Prim.Native.Nat.{ℕ, _+_, _-_, _*_, _≤_}
 use lib.ListN.{length, length-append}
 use Rattle.algebra.specs.Lists.{entryOf}
+use Rattle.algebra.specs.Parts.{joined}
+use Rattle.algebra.specs.PartLaws.{length-joined}
 use Rattle.params.specs.declared.Parameters.{Parameters}
-use Rattle.fields.specs.Fields.{joined, lineLength}
-use Rattle.fields.specs.Reading.{length-joined, length-line}
+use Rattle.fields.specs.Fields.{lineLength}
+use Rattle.fields.specs.Reading.{length-line}
 use Rattle.lines.specs.Listing.{codeLine, columnLine, linesText, listingText, listingLength}
 use Rattle.slices.specs.Lengths.{longest}
 
@@ -19,8 +21,8 @@ pub record PerColumn (n : ℕ) (h support roles : List ℕ) : Type 0 where
 
 pub length-columns : (h support roles : List ℕ) (k : ℕ) → length (joined k (columnLine h support roles)) ≡ k * lineLength 4
 unfolding columnLine
-length-columns h support roles =
-    length-joined (lineLength 4) (columnLine h support roles) (λ j. length-line (j ∷ entryOf h j ∷ entryOf support j ∷ entryOf roles j ∷ []))
+length-columns h support roles k =
+    length-joined (lineLength 4) (columnLine h support roles) k (λ j l. length-line (j ∷ entryOf h j ∷ entryOf support j ∷ entryOf roles j ∷ []))
 
 module _ (c : Parameters) where
   pub length-code : (k : ℕ) → length (codeLine c k) ≡ lineLength 6

@@ -2,6 +2,7 @@
 use mathlib.Core.List.{List, [], _∷_, _++_}
 use Prim.Native.Nat.{ℕ, _+_, _-_, _*_}
 use Rattle.algebra.specs.Lists.{entryOf}
+use Rattle.algebra.specs.Parts.{joined}
 use Rattle.algebra.specs.Tabulate.{tabulate}
 use Rattle.field.specs.Gf.{gf}
 use Rattle.slices.specs.Lengths.{longest}
@@ -9,7 +10,7 @@ use Rattle.params.specs.declared.Parameters.{Parameters}
 use Rattle.signature.specs.Signature.{supportAt}
 use Rattle.parity.specs.Columns.{rolesOf, messageLength}
 use Rattle.parity.specs.Word.{whole}
-use Rattle.fields.specs.Fields.{joined, lineText, lineLength}
+use Rattle.fields.specs.Fields.{lineText, lineLength}
 
 -- "a line m, n, t, ω, rank (n − k), k"
 unfoldable pub codeLine : Parameters → ℕ → List ℕ

@@ -24,7 +24,7 @@ pub const REPEATED: u32 = 6;
 // t is no number of roots: 01's "rows".
 pub const ROOT_COUNT: u32 = 7;
 
-// A byte of a word, a message or a step's marks is neither 0 nor 1.
+// A byte of a word, a message, a step's marks or the list of who waits is neither 0 nor 1.
 pub const BIT: u32 = 8;
 
 // A block that has no inverse: 01's "dead block".
@@ -53,6 +53,12 @@ pub const NO_FORMULA: u32 = 16;
 
 // Some of an essence's values, one or more, sum to zero.
 pub const DEPENDENT: u32 = 17;
+
+// The number of senders, of repairs or of a sender is out of range.
+pub const SENDER: u32 = 18;
+
+// A word is offered while that sender has one waiting.
+pub const WAITING: u32 = 19;
 
 // The end of a call whose result stands in lent buffers: they are written only where it is Done, but for the counts of a ride.
 pub enum Outcome {

@@ -1,11 +1,12 @@
 -- The steps of a ride: a gear, a lamp, and a word that marks the bits that are turned.
 use mathlib.Core.Bool.{Bool}
 use mathlib.Core.List.{List, [], _∷_, _++_}
-use Prim.Native.Nat.{ℕ, zero, suc, _*_}
+use Prim.Native.Nat.{ℕ, zero, suc}
 use lib.Dec.{eqb}
-use lib.ListN.{length, take, drop}
+use lib.ListN.{length}
 use Rattle.algebra.specs.All.{all}
 use Rattle.algebra.specs.Lists.{entryOf}
+use Rattle.algebra.specs.Parts.{part}
 use Rattle.refusals.specs.Rules.{Rule, _unless_, fault}
 use Rattle.slices.specs.Bits.{allBits}
 use Rattle.gears.specs.Rows.{isRow}
@@ -37,8 +38,8 @@ stepRules gear lamp marks = (8 unless allBits marks) ∷ (11 unless isRow gear l
 
 module _ (n : ℕ) (σ : Steps) where
   -- the marks of step i
-  unfoldable pub marksAt : ℕ → List ℕ
-  marksAt i = take n (drop (i * n) (σ .turned))
+  abbrev pub marksAt : ℕ → List ℕ
+  marksAt i = part n (σ .turned) i
 
   unfoldable pub rulesAt : ℕ → List Rule
   rulesAt i = stepRules (gearAt σ i) (lampAt σ i) (marksAt i)

@@ -4,12 +4,13 @@ use mathlib.Core.List.{List}
 use Prim.Native.Nat.{ℕ, _-_}
 use native.Mathlib.Omega.{arith}
 use lib.ListN.{length}
+use Rattle.algebra.specs.PartLaws.{part-lent, length-lent}
 use Rattle.parity.specs.Selected.{columns-short}
 use Rattle.refusals.specs.Rules.{fault}
 use Rattle.simulation.specs.Steps.{stepsOf, gearAt, lampAt, stepRules, rulesAt}
 use Rattle.simulation.specs.Ride.{verdictAt, stepVerdict}
 use Rattle.simulation.proofs.Riding.{Riding, riding-start, riding-long, riding-countable, riding-turn, riding-stops, riding-ends}
-use Rattle.simulation.proofs.Parts.{part-inside, part-small, part-long, part-is, step-bits}
+use Rattle.simulation.proofs.Parts.{part-inside, part-small, step-bits}
 use borrow.Author.Needs.{needs}
 use Rattle.simulation.proofs.steps.make_all.Statement.{statement}
 use Rattle.simulation.proofs.steps.make_all.Tie as tie
@@ -86,19 +87,22 @@ returns c =
     let σ = stepsOf (a .gears .now) (a .lamps .now) (a .turned .now) in
     let l = turn .loop in
     let due = c .before .step-fault .ensures
-    ∙ ap (λ (marks : List ℕ). fault (stepRules (gearAt σ (l .i)) (lampAt σ (l .i)) marks)) (part-is (length (a .cols .now)) σ (l .i)) in
+    ∙ ap (λ (marks : List ℕ). fault (stepRules (gearAt σ (l .i)) (lampAt σ (l .i)) marks))
+    (part-lent (length (a .cols .now)) (a .turned .now) (l .i)) in
     riding-stops (l .inv .1) (omega (arith, c .before .before .before .before .before .loop-test .taken)) due (c .if1 .taken)
 
 make-requires : tie.Need-make-requires Inv-loop μ-loop
 make-requires c κs =
     let turn = c .before .before .before .before .before .before in
-    let s = turn .before .before .before .before .before .before .before .before .before .before .before .before .before .before .pre in (
+    let start = turn .before .before .before .before .before .before .before .before .before .before .before .before .before .before in
+    let s = start .pre in (
       s .0,
       (
         s .1 .0,
         (
           step-bits _ _ _ (sym (c .before .step-fault .ensures) ∙ c .if1 .left),
-          part-long (s .1 .1) (omega (arith, c .before .before .before .before .before .loop-test .taken)),
+          length-lent (length (start .args .cols .now)) (start .args .turned .now) (turn .loop .i)
+              (part-inside (s .1 .1) (omega (arith, c .before .before .before .before .before .loop-test .taken))),
         ),
       ),
     )
@@ -128,7 +132,7 @@ loop-again c =
     let l = turn .loop in
     let gear = gearAt σ (l .i) in
     let lamp = lampAt σ (l .i) in
-    let marks = part-is n σ (l .i) in
+    let marks = part-lent n (a .turned .now) (l .i) in
     let due = c .before .before .before .before .before .before .step-fault .ensures ∙ ap (λ (x : List ℕ). fault (stepRules gear lamp x)) marks in
     let is = c .before .before .before .before .make .ensures ∙ ap (stepVerdict (a .c) (a .h .now) (a .cols .now) gear lamp) marks in
     let inside = c .before .before .before .before .before .before .before .before .before .before .loop-test .taken in
