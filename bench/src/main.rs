@@ -4,6 +4,7 @@
 //!     cargo run --release --offline --manifest-path bench/Cargo.toml instructions       instruction counts (needs valgrind)
 //!     cargo run --release --offline --manifest-path bench/Cargo.toml growth             how these grow with n and t
 //!     cargo run --release --offline --manifest-path bench/Cargo.toml steps              whether products differ in theirs
+//!     cargo run --release --offline --manifest-path bench/Cargo.toml halves             products of elements in one of blocks
 
 mod rival;
 mod steps;
@@ -603,8 +604,10 @@ fn main() {
         ["calls", m, n, t, ref names @ ..] => make((number(m), number(n), number(t)), names),
         ["steps"] => steps::table(),
         ["products", name, m] => steps::make(name, number(m)),
+        ["halves"] => steps::element_products(),
+        ["lengths", m] => steps::make_lengths(number(m)),
         _ => {
-            eprintln!("usage: zovunelith-bench [instructions | growth | steps]");
+            eprintln!("usage: zovunelith-bench [instructions | growth | steps | halves]");
             exit(2);
         }
     }

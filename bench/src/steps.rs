@@ -1,5 +1,6 @@
 //! The instructions of products, counted call by call: at each width they are to be one number, whatever the elements
-//! are. No proof speaks of that.
+//! are. No proof speaks of that. And how many products of elements a product of blocks takes, told from its
+//! instructions.
 
 use crate::{keep, under_callgrind, Random};
 use std::process::exit;
@@ -66,6 +67,48 @@ impl Product {
             exit(1);
         }
         (counts.len(), counts[0])
+    }
+}
+
+/// A narrower and a wider field. What the wider one adds to a product of blocks, its products of elements add.
+const WIDTHS: [u32; 2] = [8, 16];
+
+/// The lengths that a block may have.
+fn lengths() -> impl Iterator<Item = usize> {
+    (0..usize::BITS).map(|log| 1 << log).take_while(|&length| {
+        let zeros = vec![0; length];
+        block::sum(WIDTHS[0], &zeros, &zeros, &mut vec![0; length]).is_ok()
+    })
+}
+
+/// Makes a product of blocks of each length at a width, under callgrind.
+pub fn make_lengths(m: u32) {
+    for length in lengths() {
+        let ones = vec![1; length];
+        block::product(m, &ones, &ones, &mut vec![0; length]).expect("blocks");
+    }
+}
+
+/// How many products of elements a product of blocks takes: so many times as for blocks of one element, where it takes
+/// one, do its instructions grow from one width to the other. Stops where that is not 3^e for 2^e elements.
+pub fn element_products() {
+    let [narrow, wide] = WIDTHS;
+    println!(
+        "| elements | instructions, m {narrow} | instructions, m {wide} | products of elements | for each, m {wide} |"
+    );
+    println!("|---|---|---|---|---|");
+    let counted = WIDTHS.map(|m| under_callgrind("zov_block_product", &["lengths", &m.to_string()]).1);
+    assert!(counted.iter().all(|counts| counts.len() == lengths().count()), "not every product of blocks was counted");
+    let mut expected = 1;
+    let one = counted[1][0] - counted[0][0];
+    assert!(one > 0, "a product of elements takes as many instructions at m {wide} as at m {narrow}");
+    for ((length, &of_narrow), &of_wide) in lengths().zip(&counted[0]).zip(&counted[1]) {
+        if of_wide - of_narrow != expected * one {
+            eprintln!("stopped: the product of blocks of {length} does not take {expected} products of elements");
+            exit(1);
+        }
+        println!("| {length} | {of_narrow} | {of_wide} | {expected} | {} |", of_wide / expected);
+        expected *= 3;
     }
 }
 

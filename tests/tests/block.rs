@@ -86,6 +86,29 @@ fn products_of_every_length_and_width() {
     }
 }
 
+/// Blocks that repeat a shorter one, so that the sum of their halves is zero, and blocks with one half alone: of the
+/// products of halves some are zero, or cancel, at every length down to one.
+#[test]
+fn products_of_blocks_whose_halves_cancel() {
+    let mut random = Random::new(206);
+    for (m, _) in field::WORDS {
+        for s in reference::LENGTHS {
+            for part in reference::LENGTHS.into_iter().filter(|&part| part < s) {
+                let repeated = block(&mut random, m, part).repeat(s / part);
+                let mut padded = vec![0; s - part];
+                padded.extend(block(&mut random, m, part));
+                let other = block(&mut random, m, s);
+                let factors = [&repeated, &padded, &other];
+                // The longest take their time, so that one width is enough for them.
+                for a in factors.into_iter().filter(|_| s <= 128 || m == 16) {
+                    compare(Call::Product, m, a, &repeated, s).expect("a product");
+                    compare(Call::Product, m, &padded, a, s).expect("a product");
+                }
+            }
+        }
+    }
+}
+
 #[test]
 fn inverses_of_every_length_and_width() {
     let mut random = Random::new(203);

@@ -12,7 +12,7 @@ use Rattle.refusals.specs.RuleLaws.{fault-first, fault-rest, hold}
 use Rattle.field.specs.Gf.{Width, gf}
 use Rattle.field.specs.GfLaws.{gf-laws}
 use Rattle.field.specs.RangeLaws.{width-is}
-use Rattle.slices.specs.LengthLaws.{power-is}
+use Rattle.slices.specs.LengthLaws.{power-is, power-short}
 use Rattle.slices.specs.Elements.{Elements}
 use Rattle.slices.specs.ElementLaws.{elements-are}
 use Rattle.dyadic.specs.Block.{total}
@@ -59,6 +59,7 @@ pair-checked m a b out z =
       width = width-is m (h .0);
       log = p .0;
       length-a = p .2;
+      short = power-short (length a) (p .0) (p .1) (p .2);
       length-b = eqb-true (length b) (length a) (h .1 .1 .1 .0) ∙ p .2;
       length-out = eqb-true (length out) (length a) (h .1 .1 .0) ∙ p .2;
       elements-a = elements-are m a .0 (h .1 .1 .1 .1 .0);

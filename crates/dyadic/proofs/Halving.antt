@@ -1,103 +1,129 @@
--- The halves of two blocks and of a buffer, as the product's recursion cuts them, and what a call on them is given.
-use mathlib.Core.Path.{_≡_, refl, sym, ap, _∙_, subst}
-use mathlib.Core.List.{List}
-use Prim.Native.Nat.{ℕ, zero, suc, _+_, _-_, _/_, _^_, _<_}
-use native.Mathlib.Nat.{two-pow-succ, le-of-eq}
+-- A block as two halves of length h, and what becomes of them where one is lent and written to, or the high one is added to the low one.
+use mathlib.Core.Path.{_≡_, sym, ap, ap₂, _∙_, subst}
+use mathlib.Core.List.{List, _++_, append-nil}
+use Prim.Native.Nat.{ℕ, _+_, _-_, _^_, _<_, _≤_}
 use native.Mathlib.Omega.{arith}
-use lib.Pow.{pow-pos}
-use lib.ListN.{length, take, drop, length-drop}
-use lib.Seq.{take-all, length-take-le, getD-take, getD-drop}
-use Rattle.field.specs.Gf.{Width}
+use lib.ListN.{length, take, drop, length-append, length-drop, take-append-drop, drop-of-length-le}
+use lib.Seq.{take-all, take-at, drop-at, length-take-le, getD-take, getD-drop}
+use Rattle.field.specs.Gf.{Width, gf}
 use Rattle.slices.specs.Elements.{Elements}
-use Rattle.dyadic.specs.Callers.{Factors}
+use Rattle.dyadic.specs.Block.{blockSum}
+use Rattle.dyadic.specs.BlockElements.{sum-elements}
+use Rattle.dyadic.specs.Entries.{length-sum}
+use Rattle.dyadic.specs.Folded.{folded}
 
 abbrev pub low : ℕ → List ℕ → List ℕ
 low h x = take h x
 
-abbrev pub high : ℕ → List ℕ → List ℕ
-high h x = take (length x - h) (drop h x)
+-- the high half of a block of s elements
+abbrev pub high : ℕ → ℕ → List ℕ → List ℕ
+high h s x = take (s - h) (drop h x)
 
-pub high-is : (h : ℕ) (x : List ℕ) → high h x ≡ drop h x
-high-is h x = take-all (length x - h) (drop h x) (le-of-eq (length-drop h x))
+pub record Parts (h : ℕ) (lower upper x : List ℕ) : Type 0 where
+  pub joined : x ≡ lower ++ upper
+  pub size-lower : length lower ≡ h
+  pub size-upper : length upper ≡ h
 
--- what is known of a block's half
-pub record Half (m h : ℕ) (x : List ℕ) : Type 0 where
-  pub size : length x ≡ h
-  pub elements : Elements m x
-
--- the factors and the buffer of a product that goes by halves of length h
-pub record Halved (m h : ℕ) (a b out : List ℕ) : Type 0 where
-  pub width : Width m
-  pub log : ℕ
-  pub half : h ≡ 2 ^ log
-  pub length-a : length a ≡ h + h
-  pub length-out : length out ≡ h + h
-  pub a-low : Half m h (low h a)
-  pub a-high : Half m h (high h a)
-  pub b-low : Half m h (low h b)
-  pub b-high : Half m h (high h b)
-
-low-half : (m h : ℕ) (x : List ℕ) → length x ≡ h + h → Elements m x → Half m h (low h x)
-low-half m h x lx ex =
+pub parts-start : (h : ℕ) (x : List ℕ) → length x ≡ h + h → Parts h (low h x) (drop h x) x
+parts-start h x lx =
     record {
-      size = size;
-      elements = λ i l. subst (λ (y : ℕ). y < 2 ^ m) (sym (getD-take h x i 0 (omega (arith, size)))) (ex i (omega (arith, size)));
+      joined = sym (take-append-drop h x);
+      size-lower = length-take-le h x (omega arith);
+      size-upper = length-drop h x ∙ omega arith;
+    }
+
+module _ {h : ℕ} {lower upper x : List ℕ} (p : Parts h lower upper x) where
+  pub parts-low : low h x ≡ lower
+  parts-low = ap (take h) (p .joined) ∙ take-at lower upper h (p .size-lower)
+
+  parts-drop : drop h x ≡ upper
+  parts-drop = ap (drop h) (p .joined) ∙ drop-at lower upper h (p .size-lower)
+
+  pub parts-length : length x ≡ h + h
+  parts-length = ap length (p .joined) ∙ length-append lower upper ∙ ap₂ (λ (i j : ℕ). i + j) (p .size-lower) (p .size-upper)
+
+  rest-long : {s : ℕ} → s ≡ h + h → length (drop h x) ≤ s - h
+  rest-long e =
+      let long : length (drop h x) ≡ h = ap length parts-drop ∙ p .size-upper in omega arith
+
+  pub parts-high : {s : ℕ} → s ≡ h + h → high h s x ≡ upper
+  parts-high {s} e = take-all (s - h) (drop h x) (rest-long e) ∙ parts-drop
+
+  pub low-long : length (low h x) ≡ h
+  low-long = ap length parts-low ∙ p .size-lower
+
+  pub high-long : {s : ℕ} → s ≡ h + h → length (high h s x) ≡ h
+  high-long e = ap length (parts-high e) ∙ p .size-upper
+
+  pub low-inside : h ≤ length x
+  low-inside = omega (arith, parts-length)
+
+  -- the low half comes back as l
+  pub put-low : {l v : List ℕ} → l ≡ v → length v ≡ h → Parts h v upper (l ++ drop h x)
+  put-low e lv =
+      record { joined = ap₂ (λ (u v : List ℕ). u ++ v) e parts-drop; size-lower = lv; size-upper = p .size-upper }
+
+  -- the high half comes back as l
+  pub put-high : {s : ℕ} → s ≡ h + h → {l v : List ℕ} → l ≡ v → length v ≡ h → Parts h lower v (low h x ++ (l ++ drop (s - h) (drop h x)))
+  put-high e {l} ev lv =
+      record {
+        joined =
+            ap₂ (λ (u v : List ℕ). u ++ v) parts-low
+            (ap (λ (u : List ℕ). l ++ u) (drop-of-length-le (drop h x) (rest-long e)) ∙ append-nil l ∙ ev);
+        size-lower = p .size-lower;
+        size-upper = lv;
+      }
+
+  pub put-folded : (m : ℕ) {y : List ℕ} → y ≡ folded (gf m) h x → Parts h (blockSum (gf m) lower upper) upper y
+  unfolding folded
+  put-folded m e =
+      record {
+        joined = e ∙ ap₂ (λ (u v : List ℕ). blockSum (gf m) u v ++ v) parts-low parts-drop;
+        size-lower = length-sum (gf m) lower upper ∙ p .size-lower;
+        size-upper = p .size-upper;
+      }
+
+-- ---- a factor: both halves are of elements of the field
+
+pub record Factor (m h : ℕ) (lower upper x : List ℕ) : Type 0 where
+  pub parts : Parts h lower upper x
+  pub in-lower : Elements m lower
+  pub in-upper : Elements m upper
+
+pub factor-start : (m h : ℕ) (x : List ℕ) → length x ≡ h + h → Elements m x → Factor m h (low h x) (drop h x) x
+factor-start m h x lx ex =
+    record {
+      parts = p;
+      in-lower =
+          λ i l. subst (λ (y : ℕ). y < 2 ^ m) (sym (getD-take h x i 0 (omega (arith, p .size-lower)))) (ex i (omega (arith, p .size-lower)));
+      in-upper = λ i l. subst (λ (y : ℕ). y < 2 ^ m) (sym (getD-drop h x i 0)) (ex (h + i) (omega (arith, p .size-upper)));
     }
   where
-    size : length (take h x) ≡ h
-    size = length-take-le h x (omega arith)
+    p : Parts h (low h x) (drop h x) x
+    p = parts-start h x lx
 
-high-half : (m h : ℕ) (x : List ℕ) → length x ≡ h + h → Elements m x → Half m h (high h x)
-high-half m h x lx ex =
-    subst (Half m h) (sym (high-is h x))
-    (record { size = size; elements = λ i l. subst (λ (y : ℕ). y < 2 ^ m) (sym (getD-drop h x i 0)) (ex (h + i) (omega (arith, size))) })
-  where
-    size : length (drop h x) ≡ h
-    size = length-drop h x ∙ omega arith
+module _ {m h : ℕ} {lower upper x : List ℕ} (f : Factor m h lower upper x) where
+  -- a half that was lent comes back as it was
+  pub low-kept : {l : List ℕ} → l ≡ low h x → Factor m h lower upper (l ++ drop h x)
+  low-kept e =
+      record {
+        parts = put-low (f .parts) (e ∙ parts-low (f .parts)) (f .parts .size-lower);
+        in-lower = f .in-lower;
+        in-upper = f .in-upper;
+      }
 
-pub halved : (m : ℕ) (a b out : List ℕ) → Factors m a b out → (length a ≡ 1 → ⊥) → Halved m (length a / 2) a b out
-halved m a b out f ne = at (f .log) refl
-  where
-    built : (e : ℕ) → f .log ≡ suc e → 2 ^ f .log ≡ 2 ^ e + 2 ^ e → Halved m (length a / 2) a b out
-    built e l d =
-        let la : length a ≡ 2 ^ f .log = f .length-a in
-        let lb : length b ≡ 2 ^ f .log = f .length-b in
-        let lo : length out ≡ 2 ^ f .log = f .length-out in
-        let half : length a / 2 ≡ 2 ^ e = omega arith in
-        let wa : length a ≡ length a / 2 + length a / 2 = omega arith in
-        let wb : length b ≡ length a / 2 + length a / 2 = omega arith in
-        let wo : length out ≡ length a / 2 + length a / 2 = omega arith in
-        record {
-          width = f .width;
-          log = e;
-          half = half;
-          length-a = wa;
-          length-out = wo;
-          a-low = low-half m (length a / 2) a wa (f .elements-a);
-          a-high = high-half m (length a / 2) a wa (f .elements-a);
-          b-low = low-half m (length a / 2) b wb (f .elements-b);
-          b-high = high-half m (length a / 2) b wb (f .elements-b);
-        }
+  pub high-kept : {s : ℕ} → s ≡ h + h → {l : List ℕ} → l ≡ high h s x → Factor m h lower upper (low h x ++ (l ++ drop (s - h) (drop h x)))
+  high-kept es e =
+      record {
+        parts = put-high (f .parts) es (e ∙ parts-high (f .parts) es) (f .parts .size-upper);
+        in-lower = f .in-lower;
+        in-upper = f .in-upper;
+      }
 
-    at : (k : ℕ) → f .log ≡ k → Halved m (length a / 2) a b out
-    at zero l = absurd (ne (f .length-a ∙ ap (λ (k : ℕ). 2 ^ k) l))
-    at (suc e) l = built e l (ap (λ (k : ℕ). 2 ^ k) l ∙ two-pow-succ e)
-
--- a call on two halves: it is shorter, and it is given what it asks
-pub called : (m h t : ℕ) (a b out : List ℕ) → Halved m h a b out → length a ≡ t
-    → {x y : List ℕ} → Half m h x → Half m h y → (z : List ℕ) → length z ≡ h → (length x < t) × Factors m x y z
-called m h t a b out k lt {x} p q z lz = (
-  shorter,
-  record {
-    width = k .width;
-    log = k .log;
-    length-a = p .size ∙ k .half;
-    length-b = q .size ∙ k .half;
-    length-out = lz ∙ k .half;
-    elements-a = p .elements;
-    elements-b = q .elements;
-  },
-)
-  where
-    shorter : length x < t
-    shorter = omega (arith, p .size, k .length-a, k .half, pow-pos (k .log))
+  pub factor-folded : Width m → {y : List ℕ} → y ≡ folded (gf m) h x → Factor m h (blockSum (gf m) lower upper) upper y
+  factor-folded W e =
+      record {
+        parts = put-folded (f .parts) m e;
+        in-lower = sum-elements m W lower upper (f .parts .size-upper ∙ sym (f .parts .size-lower)) (f .in-lower) (f .in-upper);
+        in-upper = f .in-upper;
+      }

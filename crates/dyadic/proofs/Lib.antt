@@ -1,2 +1,4 @@
+pub mod Folding
 pub mod Halving
+pub mod Stages
 pub mod Adding

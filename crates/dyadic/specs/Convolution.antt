@@ -1,4 +1,4 @@
--- Convolutions of functions of an index below 2^e: by halves, both ways round, and of a function with itself.
+-- Convolutions of functions of an index below 2^e: by halves, both ways round, of two sums, and of a function with itself.
 --
 -- By halves: the indices below 2^(e+1) are those below 2^e and those with the bit 2^e, and ⊕ adds that bit apart from the others.
 use mathlib.Core.Path.{_≡_, sym, ap, ap₂, _∙_}
@@ -11,7 +11,7 @@ use lib.Arith.{lt-one}
 use Rattle.algebra.specs.Field.{Ops, Laws}
 use Rattle.algebra.specs.FieldLaws.{ring, nought-mul}
 use Rattle.algebra.specs.Sum.{sum}
-use Rattle.algebra.specs.SumLaws.{sum-cong, sum-split, sum-reindex}
+use Rattle.algebra.specs.SumLaws.{sum-cong, sum-add, sum-split, sum-reindex}
 use Rattle.algebra.specs.XorLaws.{left-top, right-top, both-top, xor, ⊕-zero, ⊕-lt}
 use Rattle.algebra.specs.Xor.{_⊕_}
 use Rattle.dyadic.specs.Block.{convolution}
@@ -51,6 +51,20 @@ module _ {A : Type 0} (K : Ops A) (F : Laws K) where
     where
       back : (j : ℕ) → j ⊕ d ⊕ d ≡ j
       back j = simp xor
+
+  -- ---- of two sums: beside fh and gk the mixed products are left, (f + g)(h + k) + fh + gk = fk + gh
+
+  pub convolution-mixed : (n : ℕ) (f g h k : ℕ → A) (d : ℕ)
+      → convolution K n f h d + convolution K n g k d + convolution K n (λ j. f j + g j) (λ j. h j + k j) d
+      ≡ convolution K n f k d + convolution K n g h d
+  convolution-mixed n f g h k d =
+      ap (λ (x : A). x + convolution K n (λ j. f j + g j) (λ j. h j + k j) d) (sym (sum-add K F n (λ j. f j · h (j ⊕ d)) (λ j. g j · k (j ⊕ d))))
+      ∙ sym (sum-add K F n (λ j. f j · h (j ⊕ d) + g j · k (j ⊕ d)) (λ j. (f j + g j) · (h (j ⊕ d) + k (j ⊕ d))))
+      ∙ sum-cong K n (λ j lj. mixed (f j) (g j) (h (j ⊕ d)) (k (j ⊕ d)))
+      ∙ sum-add K F n (λ j. f j · k (j ⊕ d)) (λ j. g j · h (j ⊕ d))
+    where
+      mixed : (w x y z : A) → w · y + x · z + (w + x) · (y + z) ≡ w · z + x · y
+      mixed w x y z = simp ring
 
   -- ---- the square of f: the square of its sum at 0, and nought elsewhere
 

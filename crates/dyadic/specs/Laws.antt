@@ -13,8 +13,9 @@ use Rattle.algebra.specs.TabulateLaws.{tabulate-cong, tabulate-append}
 use Rattle.algebra.specs.Xor.{_⊕_}
 use Rattle.dyadic.specs.Block.{matrix, blockSum, convolution, blockProduct, total, blockInverse}
 use Rattle.dyadic.specs.Matrix.{Matrix, Same, matrixSum, matrixProduct, identity}
-use Rattle.dyadic.specs.Convolution.{upper, convolution-lower, convolution-upper, convolution-comm}
-use Rattle.dyadic.specs.Entries.{length-inverse, entry-sum, product-sized, entry-product, entry-front, entry-back, sum-products}
+use Rattle.dyadic.specs.Convolution.{upper, convolution-cong, convolution-lower, convolution-upper, convolution-comm, convolution-mixed}
+use Rattle.dyadic.specs.Entries.{length-sum, length-inverse, entry-sum, product-sized, entry-product}
+use Rattle.dyadic.specs.Entries.{entry-front, entry-back, sum-tabulate, sum-products}
 use Rattle.dyadic.specs.Inverse.{identity-dyadic, identity-symmetric, identity-row, inverse-convolution, combined-rows}
 
 module _ {A : Type 0} (K : Ops A) (F : Laws K) (e : ℕ) where
@@ -89,6 +90,36 @@ module _ {A : Type 0} (K : Ops A) (F : Laws K) (e : ℕ) where
 
       back-d : (j : ℕ) → j < s → upper e g j ≡ entry K d j
       back-d j lj = entry-back K s c d lc j
+
+  -- ---- 01: "With halves A, B and C, D, compute AC, BD and (A + B)(C + D), and take the second half of the result as the third plus the first two."
+
+  mixed-products : (a b c d : List A) → length a ≡ s → length b ≡ s → length c ≡ s → length d ≡ s
+      → blockSum K (blockProduct K a d) (blockProduct K b c)
+      ≡ blockSum K (blockSum K (blockProduct K a c) (blockProduct K b d)) (blockProduct K (blockSum K a b) (blockSum K c d))
+  mixed-products a b c d la lb lc ld =
+      ap₂ (blockSum K) (product-sized K s a d la) (product-sized K s b c lb)
+      ∙ sum-tabulate K s (times a d) (times b c)
+      ∙ tabulate-cong s (λ i li. sym (convolution-mixed K F s (entry K a) (entry K b) (entry K c) (entry K d) i)
+      ∙ ap (λ (x : A). K .add (K .add (times a c i) (times b d i)) x) (sym (of-sums i li)))
+      ∙ sym (sum-tabulate K s (λ i. K .add (times a c i) (times b d i)) (times (blockSum K a b) (blockSum K c d)))
+      ∙ ap₂ (blockSum K)
+      (sym (sum-tabulate K s (times a c) (times b d)) ∙ ap₂ (blockSum K) (sym (product-sized K s a c la)) (sym (product-sized K s b d lb)))
+      (sym (product-sized K s (blockSum K a b) (blockSum K c d) (length-sum K a b ∙ la)))
+    where
+      times : List A → List A → ℕ → A
+      times x y = convolution K s (entry K x) (entry K y)
+
+      of-sums : (i : ℕ) → i < s → times (blockSum K a b) (blockSum K c d) i
+          ≡ convolution K s (λ j. K .add (entry K a j) (entry K b j)) (λ j. K .add (entry K c j) (entry K d j)) i
+      of-sums = convolution-cong K e (λ j lj. entry-sum K a b j (rw la lj)) (λ j lj. entry-sum K c d j (rw lc lj))
+
+  pub product-three-halves : (a b c d : List A) → length a ≡ s → length b ≡ s → length c ≡ s → length d ≡ s
+      → blockProduct K (a ++ b) (c ++ d)
+      ≡ blockSum K (blockProduct K a c) (blockProduct K b d)
+      ++ blockSum K (blockSum K (blockProduct K a c) (blockProduct K b d)) (blockProduct K (blockSum K a b) (blockSum K c d))
+  product-three-halves a b c d la lb lc ld =
+      product-halves a b c d la lb lc ld
+      ∙ ap (λ (x : List A). blockSum K (blockProduct K a c) (blockProduct K b d) ++ x) (mixed-products a b c d la lb lc ld)
 
   -- ---- 01: "The inverse exists exactly if the sum of all s elements is nonzero; it is then the signature divided by the square of that sum."
 

@@ -8,3 +8,6 @@ pub mod Sums
 pub mod Inverse
 pub mod Laws
 pub mod Callers
+pub mod Folded
+pub mod Count
+pub mod CountLaws

@@ -1,9 +1,10 @@
--- Sums of blocks: they may be bracketed either way, a zero block changes nothing, and halves are added apart.
+-- Sums of blocks: they may be bracketed either way, a block that is added twice is gone, a zero block changes nothing, and halves are added apart.
 use mathlib.Core.Path.{_≡_, sym, ap, ap₂, _∙_}
 use mathlib.Core.List.{List, _++_}
 use Prim.Native.Nat.{ℕ, _+_}
 use lib.ListN.{length, length-append}
 use Rattle.algebra.specs.Field.{Ops, Laws}
+use Rattle.algebra.specs.FieldLaws.{add-nought}
 use Rattle.algebra.specs.Lists.{entry}
 use Rattle.algebra.specs.Tabulate.{tabulate}
 use Rattle.algebra.specs.TabulateLaws.{length-tabulate, getD-tabulate, tabulate-cong, tabulate-getD, tabulate-append}
@@ -32,6 +33,19 @@ module _ {A : Type 0} (K : Ops A) (F : Laws K) where
       (λ i l.
       ap (λ (x : A). K .add x (entry K c i)) (entry-sum K a b i l) ∙ F .add-assoc (entry K a i) (entry K b i) (entry K c i)
       ∙ ap (K .add (entry K a i)) (sym (entry-sum K b c i (rw lb l))))
+
+  -- what is added twice is gone
+  pub sum-cancel : (a b : List A) → length b ≡ length a → blockSum K (blockSum K a b) b ≡ a
+  unfolding blockSum
+  sum-cancel a b lb =
+      sum-assoc a b b lb
+      ∙ tabulate-cong (length a)
+      (λ i l. ap (K .add (entry K a i)) (entry-sum K b b i (rw lb l) ∙ F .add-self (entry K b i)) ∙ add-nought K F (entry K a i))
+      ∙ tabulate-getD a (K .nought)
+
+  pub sum-through : (a b c : List A) → length b ≡ length a → blockSum K (blockSum K a b) (blockSum K b c) ≡ blockSum K a c
+  sum-through a b c lb =
+      sym (sum-assoc (blockSum K a b) b c (lb ∙ sym (length-sum K a b))) ∙ ap (λ (x : List A). blockSum K x c) (sum-cancel a b lb)
 
   pub zero-sum : (a : List A) → blockSum K (tabulate (length a) (λ i. K .nought)) a ≡ a
   unfolding blockSum

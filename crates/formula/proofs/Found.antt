@@ -3,13 +3,12 @@ use mathlib.Core.Path.{_≡_, refl, sym, ap, subst, _∙_}
 use mathlib.Core.Logic.{_≢_, _⊎_, inl, inr}
 use mathlib.Core.Bool.{Bool, true, false, not, _||_, _&&_, true≢false}
 use mathlib.Core.List.{List}
-use Prim.Native.Nat.{ℕ, suc, _+_, _-_, _<_, _≤_}
+use Prim.Native.Nat.{ℕ, suc, _+_, _-_, _<_}
 use native.Mathlib.Omega.{arith}
 use lib.Dec.{eqb, lit<}
 use lib.ListN.{length, getD}
 use borrow.Author.Tests.{eqb-true, eq-eqb, not-true, not-false}
 use Rattle.field.specs.Gf.{Width, gf}
-use Rattle.slices.specs.Lengths.{longest}
 use Rattle.slices.specs.Elements.{Elements}
 use Rattle.dyadic.specs.Block.{blockSum, blockProduct, blockInverse}
 use Rattle.dyadic.specs.Callers.{Factors}
@@ -32,19 +31,18 @@ resized {m} {β} ready e = subst (Ready m β) (sym e) ready
 
 -- what a multiplication asks
 pub factors : {m : ℕ} {β : Lent} {value other : List ℕ} → Ready m β (length value) → Elements m value → length other ≡ length value → Elements m other
-    → Factors m value other value × (length value ≤ longest)
-factors ready ha e hb = (
-  record {
-    width = ready .width;
-    log = ready .log;
-    length-a = ready .power;
-    length-b = e ∙ ready .power;
-    length-out = ready .power;
-    elements-a = ha;
-    elements-b = hb;
-  },
-  ready .room,
-)
+    → Factors m value other value
+factors ready ha e hb =
+    record {
+      width = ready .width;
+      log = ready .log;
+      length-a = ready .power;
+      short = ready .room;
+      length-b = e ∙ ready .power;
+      length-out = ready .power;
+      elements-a = ha;
+      elements-b = hb;
+    }
 
 -- a product goes on at the cursor
 pub goes-on : {n byte : ℕ} {more : Bool} → byte ≡ n → more ≡ (eqb byte timesByte || eqb byte overByte) → more ≡ true

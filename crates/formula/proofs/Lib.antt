@@ -1,4 +1,3 @@
-pub mod Room
 pub mod Steps
 pub mod Refusing
 pub mod Found

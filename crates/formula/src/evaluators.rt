@@ -178,7 +178,7 @@ fn multiply_term(
         return Found::Nothing;
     };
     if byte_at(text, from.at) == b'*' {
-        values::multiply(m, value, &room[..s]);
+        values::multiply(m, value, &mut room[..s]);
         return Found::Read(end);
     }
     let exists = values::divide(m, value, &mut room[..s]);

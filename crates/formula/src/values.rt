@@ -4,11 +4,10 @@ use field::internal::product;
 use slices::LONGEST;
 ghost use mathlib.Core.Path.{_≡_};
 ghost use mathlib.Core.Bool.{true, not};
-ghost use Prim.Native.Nat.{ℕ, _≤_};
+ghost use Prim.Native.Nat.{ℕ};
 ghost use lib.Dec.{eqb};
 ghost use lib.ListN.{length};
 ghost use Rattle.field.specs.Gf.{Width, gf};
-ghost use Rattle.slices.specs.Lengths.{longest};
 ghost use Rattle.slices.specs.Elements.{Elements};
 ghost use Rattle.dyadic.specs.Block.{blockSum, blockProduct, blockInverse};
 ghost use Rattle.dyadic.specs.Callers.{Factors};
@@ -52,16 +51,17 @@ pub fn add(value: &mut [Elem], other: &[Elem])
     }
 }
 
-// The product with another block.
-pub fn multiply(m: u32, value: &mut [Elem], other: &[Elem])
-    requires { ⌜ Factors m (now value) (now other) (now value) × (length (now value) ≤ longest) ⌝ }
+// The product with another block, which is written to on the way and is then as it was.
+pub fn multiply(m: u32, value: &mut [Elem], other: &mut [Elem])
+    requires { ⌜ Factors m (now value) (now other) (now value) ⌝ }
     ensures { λ _. ⌜ now (value .exit) ≡ blockProduct (gf m) (now (value .entry)) (now (other .entry)) ⌝ }
+    ensures { λ _. ⌜ now (other .exit) ≡ now (other .entry) ⌝ }
 {
     let mut room: [Elem; LONGEST] = [0; LONGEST];
     let s = value.len();
     slices::copy(value, &mut room[..s]);
     dyadic::clear(value);
-    dyadic::add_product(m, &room[..s], other, value);
+    dyadic::add_by_halves(m, &mut room[..s], other, value);
 }
 
 // The inverse, and whether there is one: without one the value becomes zeros, since the inverse of 0 is 0.
@@ -80,7 +80,7 @@ pub fn invert(m: u32, value: &mut [Elem]) -> bool
 
 // The quotient by another block, and whether that block has an inverse, which takes its place.
 pub fn divide(m: u32, value: &mut [Elem], other: &mut [Elem]) -> bool
-    requires { ⌜ Factors m (now value) (now other) (now value) × (length (now value) ≤ longest) ⌝ }
+    requires { ⌜ Factors m (now value) (now other) (now value) ⌝ }
     ensures { λ r. ⌜ r ≡ isInvertible m (now (other .entry)) ⌝ }
     ensures { λ _. ⌜ now (value .exit) ≡ blockProduct (gf m) (now (value .entry)) (blockInverse (gf m) (now (other .entry))) ⌝ }
 {

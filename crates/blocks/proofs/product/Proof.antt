@@ -42,7 +42,7 @@ returns-2 c =
     let none = e .if1 .left in
     let f = pair-checked _ _ _ (g .out .now) (sym number ∙ none) in (
       accept Refused _ number none,
-      into-cleared f (d .clear .ensures) (c .before .before .add-product .ensures) ∙ accept (λ k. g .out .now) _ number none,
+      into-cleared f (d .clear .ensures) (c .before .before .add-product .ensures .0) ∙ accept (λ k. g .out .now) _ number none,
     )
 
 pub product-spec : {M : Type 1} → statement M

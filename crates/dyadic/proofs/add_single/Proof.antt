@@ -1,5 +1,5 @@
 -- `add_single` meets its contract: the product of two blocks of length one is the product of their elements.
-use mathlib.Core.Path.{sym, _∙_}
+use mathlib.Core.Path.{refl, sym, _∙_}
 use native.Mathlib.Omega.{arith}
 use borrow.Author.Needs.{needs}
 use Rattle.algebra.specs.Xor.{_⊕_}
@@ -32,8 +32,10 @@ unfolding _⊕_
 returns c =
     let g = c .before .before .before .before .before .before .before .args in
     let pre = c .before .before .before .before .before .before .before .pre in
+    let made =
     single (g .m) _ (g .a .now) (g .b .now) (g .out .now) (pre .1) (pre .0 .length-out ∙ sym (pre .0 .length-a) ∙ pre .1)
-    (c .before .product .ensures .0)
+    (c .before .product .ensures .0) in
+    (made, refl)
 
 pub add-single-spec : {M : Type 1} → statement M
 add-single-spec =

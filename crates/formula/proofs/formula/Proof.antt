@@ -8,7 +8,7 @@ use Rattle.formula.specs.Letters.{Lent, lending}
 use Rattle.formula.specs.Answers.{lentFault}
 use Rattle.formula.specs.Callers.{Ready}
 use Rattle.formula.specs.CallerLaws.{ready}
-use Rattle.formula.proofs.Room.{length-lent, Filled, filled}
+use Rattle.slices.proofs.Room.{length-lent, Filled, filled}
 use Rattle.formula.proofs.Found.{resized}
 use Rattle.formula.proofs.Ending.{lent-refuses, text-refuses, text-done}
 use Rattle.formula.proofs.formula.Statement.{statement}

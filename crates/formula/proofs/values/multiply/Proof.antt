@@ -9,7 +9,7 @@ use Rattle.field.specs.Gf.{gf}
 use Rattle.dyadic.specs.Block.{blockSum, blockProduct}
 use Rattle.dyadic.specs.Callers.{Factors}
 use Rattle.dyadic.proofs.Adding.{cleared, into-cleared}
-use Rattle.formula.proofs.Room.{lentFront, length-lent, Filled, filled}
+use Rattle.slices.proofs.Room.{lentFront, length-lent, Filled, filled}
 use Rattle.formula.proofs.values.multiply.Statement.{statement}
 use Rattle.formula.proofs.values.multiply.Tie as tie
 
@@ -22,10 +22,10 @@ array-borrow-prefix-room : tie.Need-array-borrow-prefix-room
 array-borrow-prefix-room c = search needs
 
 slice-aggregate-copy : tie.Need-slice-aggregate-copy
-slice-aggregate-copy c = sym (length-lent (c .before .before .before .before .pre .1))
+slice-aggregate-copy c = sym (length-lent (c .before .before .before .before .pre .short))
 
 copy-requires : tie.Need-copy-requires
-copy-requires c κs = length-lent (c .before .before .before .before .pre .1)
+copy-requires c κs = length-lent (c .before .before .before .before .pre .short)
 
 clear-requires : tie.Need-clear-requires
 clear-requires c κs = search needs
@@ -36,32 +36,36 @@ module _ (c : tie.After-copy) where
   start = c .before .before .before .before .before
 
   room : Filled (length (start .args .value .now)) (c .copy .last .1 .0)
-  room = filled (start .pre .1) (c .copy .kept .1 .0)
+  room = filled (start .pre .short) (c .copy .kept .1 .0)
 
   aside : lentFront (length (start .args .value .now)) (c .copy .last .1 .0) ≡ start .args .value .now
   aside = room .front ∙ c .copy .ensures
 
-array-share-prefix-room : tie.Need-array-share-prefix-room
-array-share-prefix-room c = room (c .before .before .before .before .before) .fits
+array-borrow-prefix-room-2 : tie.Need-array-borrow-prefix-room-2
+array-borrow-prefix-room-2 c = room (c .before .before .before .before .before) .fits
 
-slice-aggregate-add-product : tie.Need-slice-aggregate-add-product
-slice-aggregate-add-product c = sym (ap length (aside (c .before .before .before .before .before .before)))
+slice-aggregate-add-by-halves : tie.Need-slice-aggregate-add-by-halves
+slice-aggregate-add-by-halves c = sym (ap length (aside (c .before .before .before .before .before .before)))
 
-add-product-requires : tie.Need-add-product-requires
-add-product-requires c κs =
-    let e = c .before .before .before .before in
+add-by-halves-requires : tie.Need-add-by-halves-requires
+add-by-halves-requires c κs =
+    let e = c .before .before .before .before .before in
     let d = e .before .before .before in
     let g = start d .args in
-    subst (λ (x : List ℕ). Factors (g .m) x (g .other .now) (e .clear .last .0)) (sym (aside d)) (cleared (e .clear .kept .0) (start d .pre .0))
+    subst (λ (x : List ℕ). Factors (g .m) x (g .other .now) (e .clear .last .0)) (sym (aside d)) (cleared (e .clear .kept .0) (start d .pre))
 
 same-length : tie.Need-same-length
 same-length c = search needs
 
+same-length-2 : tie.Need-same-length-2
+same-length-2 c = search needs
+
 returns : tie.Need-returns
 returns c =
-    let e = c .before .before .before .before .before .before .before in
+    let call = c .before .before .before .before .before in
+    let e = call .before .before .before .before .before .before in
     let d = e .before .before .before in
-    copied-product (start d .pre .0) (aside d) (e .clear .ensures) (c .before .before .add-product .ensures)
+    (copied-product (start d .pre) (aside d) (e .clear .ensures) (call .add-by-halves .ensures .0), call .add-by-halves .ensures .1 .0 .1)
 
 pub multiply-spec : {M : Type 1} → statement M
 multiply-spec =
@@ -71,8 +75,9 @@ multiply-spec =
     slice-aggregate-copy
     copy-requires
     clear-requires
-    array-share-prefix-room
-    slice-aggregate-add-product
-    add-product-requires
+    array-borrow-prefix-room-2
+    slice-aggregate-add-by-halves
+    add-by-halves-requires
     same-length
+    same-length-2
     returns)

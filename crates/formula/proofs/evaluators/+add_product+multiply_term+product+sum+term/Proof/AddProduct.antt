@@ -19,7 +19,7 @@ use Rattle.formula.proofs.evaluators.add_product.Reads as reads
 use Rattle.formula.proofs.evaluators.add_product.Kinds as kinds
 use Rattle.formula.proofs.evaluators.+add_product+multiply_term+product+sum+term.Lts-add_product as lts
 use Rattle.formula.proofs.evaluators.+add_product+multiply_term+product+sum+term.Proof.Measure.{μ-product, μ-add-product, at, below}
-use Rattle.formula.proofs.Room.{length-lent, Filled, filled}
+use Rattle.slices.proofs.Room.{length-lent, Filled, filled}
 
 -- what it is given at the measure t, and what it calls
 module _ (t : ℕ) where

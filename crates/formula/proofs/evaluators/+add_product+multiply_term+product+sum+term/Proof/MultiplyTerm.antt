@@ -1,13 +1,12 @@
 -- `multiply_term` meets its contract: the term after the * or / is read into the front of `room`, and the value is multiplied or divided by that.
 use mathlib.Core.Path.{_≡_, sym, ap, subst, _∙_}
 use mathlib.Core.List.{List}
-use Prim.Native.Nat.{ℕ, _≤_}
+use Prim.Native.Nat.{ℕ}
 use native.Mathlib.Omega.{arith}
 use lib.ListN.{length}
 use borrow.Author.Needs.{needs}
 use borrow.Fn.Kinds.{In}
 use Rattle.field.specs.Gf.{gf}
-use Rattle.slices.specs.Lengths.{longest}
 use Rattle.slices.specs.Elements.{Elements}
 use Rattle.dyadic.specs.Block.{blockProduct, blockInverse}
 use Rattle.dyadic.specs.Callers.{Factors}
@@ -25,7 +24,7 @@ use Rattle.formula.proofs.evaluators.multiply_term.Reads as reads
 use Rattle.formula.proofs.evaluators.multiply_term.Kinds as kinds
 use Rattle.formula.proofs.evaluators.+add_product+multiply_term+product+sum+term.Lts-multiply_term as lts
 use Rattle.formula.proofs.evaluators.+add_product+multiply_term+product+sum+term.Proof.Measure.{μ-term, μ-multiply-term, at, below}
-use Rattle.formula.proofs.Room.{length-lent, lentFront, Filled, filled}
+use Rattle.slices.proofs.Room.{length-lent, lentFront, Filled, filled}
 
 -- what it is given at the measure t, and what it calls
 module _ (t : ℕ) where
@@ -67,7 +66,7 @@ module _ (t : ℕ) where
     room = filled (start .pre .1 .0 .room) (c .term .kept .1 .1 .1 .1 .1 .1 .1 .1 .0)
 
     -- what a multiplication by it asks
-    factor : {to : Cursor} → c .term .result ≡ Read to → Factors m value (lentFront (length value) block) value × (length value ≤ longest)
+    factor : {to : Cursor} → c .term .result ≡ Read to → Factors m value (lentFront (length value) block) value
     factor read =
         let (h, ends) = found-read {β = lent} (c .term .ensures) read in
         factors (start .pre .1 .0) (start .pre .1 .1 .1) (room .length-front) (subst (Elements m) (sym (room .front)) (h .elements))
@@ -110,8 +109,8 @@ module _ (t : ℕ) where
 
   -- ---- a *
 
-  array-share-prefix-room : lts.Need-array-share-prefix-room calls given reads.Post
-  array-share-prefix-room c =
+  array-borrow-prefix-room-2 : lts.Need-array-borrow-prefix-room-2 calls given reads.Post
+  array-borrow-prefix-room-2 c =
       let call = c .before .before .before .before .before .before .before in room call .fits
 
   slice-aggregate-multiply : lts.Need-slice-aggregate-multiply calls given reads.Post
@@ -127,13 +126,13 @@ module _ (t : ℕ) where
 
   returns-2 : lts.Need-returns-2 calls given reads.Post
   returns-2 c =
-      let times = c .before .before .before .before .before in
+      let times = c .before .before .before .before .before .before in
       let found = times .before .before .before in
       let read = found .found .given .1 in
       let call = found .before .before .before in
       let next = call .before .before .after .ensures in
       let s = start call in
-      let v = c .before .before .multiply .ensures ∙ ap (blockProduct (gf (m call)) (value call)) (room call .front) in (
+      let v = c .before .before .before .multiply .ensures .0 ∙ ap (blockProduct (gf (m call)) (value call)) (room call .front) in (
         λ from h. times-read {β = lent call} (s .args .from) next (call .term .ensures) (s .pre .1 .0 .width) h read (times .before .byte-at .ensures)
             (times .if1 .taken) v,
         record { moves = factor-moves {β = lent call} (s .args .from) next (call .term .ensures) read },
@@ -141,8 +140,8 @@ module _ (t : ℕ) where
 
   -- ---- a /
 
-  array-borrow-prefix-room-2 : lts.Need-array-borrow-prefix-room-2 calls given reads.Post
-  array-borrow-prefix-room-2 c =
+  array-borrow-prefix-room-3 : lts.Need-array-borrow-prefix-room-3 calls given reads.Post
+  array-borrow-prefix-room-3 c =
       let call = c .before .before .before .before .before .before .before in room call .fits
 
   slice-aggregate-divide : lts.Need-slice-aggregate-divide calls given reads.Post
@@ -184,12 +183,12 @@ module _ (t : ℕ) where
       enum-told
       returns
       byte-at-requires
-      array-share-prefix-room
+      array-borrow-prefix-room-2
       slice-aggregate-multiply
       multiply-requires
       same-length
       returns-2
-      array-borrow-prefix-room-2
+      array-borrow-prefix-room-3
       slice-aggregate-divide
       divide-requires
       same-length-2
