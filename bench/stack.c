@@ -10,10 +10,16 @@
 #include <string.h>
 #include "zovunelith.h"
 
-enum { M = 16, N = 512, T = 16, CHOSEN = 24, LENGTH = CHOSEN * T, STACK = 1 << 20, PAINT = 0xA5, MARGIN = 96 };
+enum { M = 16, N = 512, T = 16, STACK = 1 << 20, PAINT = 0xA5, MARGIN = 96 };
 
 static zov_elem h[N], roots[N], support[N], block[N], syndrome[T];
 static uint8_t roles[N], message[N], word[N], received[N], repaired[N];
+
+/* The code, with marks that hide one message column: that may ask for more than where nothing is hidden. */
+enum { SENT = N - 1 };
+static uint8_t hidden[N];
+#define CODE M, N, T, 0, h, N, hidden, N
+
 /* Two lines of a sheet and the 0 that ends a string; the longest listing. */
 static char text[(4 * 6 + 1) + (N * 6 + 1) + 1], listing[(6 * 6 + 1) + N * (4 * 6 + 1)];
 static size_t text_length;
@@ -26,22 +32,24 @@ static zov_elem essence[VALUES];
 /* A ride whose steps are a row with T bits turned. */
 enum { STEPS = 3 };
 static const uint8_t gears[STEPS] = {1, 1, 1}, lamps[STEPS] = {0, 0, 0};
-static uint8_t turned[STEPS * N];
+static uint8_t turned[STEPS * SENT];
 static uint32_t counts[4];
 
 /* As many senders as there may be. The calls are made in their order: the start, the offer of a row's word with T bits
  * turned, and the round that repairs it. */
 enum { SENDERS = 8 };
-static uint8_t waiting[SENDERS], words[SENDERS * N], handed[SENDERS * N];
+static uint8_t waiting[SENDERS], words[SENDERS * SENT], handed[SENDERS * SENT];
 static uint32_t next;
 static int32_t answers[SENDERS];
-#define DASH M, N, T, 0, h, N, SENDERS, SENDERS
+#define DASH CODE, SENDERS, SENDERS
 
-/* A selection of CHOSEN blocks, its number of message columns, and a row's word with T bits turned. */
+/* A selection of CHOSEN blocks, with one message column hidden; the number of those that are sent, and a row's word
+ * with T bits turned. */
+enum { CHOSEN = 24, PLACES = CHOSEN * T, LENGTH = PLACES - 1 };
 static uint32_t blocks[CHOSEN], shifts[CHOSEN];
 static int selected_k;
-static uint8_t selected_received[LENGTH];
-#define SELECTION M, N, T, 0, h, N, blocks, CHOSEN, shifts, CHOSEN
+static uint8_t selected_hidden[PLACES], selected_received[LENGTH];
+#define SELECTION M, N, T, 0, h, N, blocks, CHOSEN, shifts, CHOSEN, selected_hidden, PLACES
 
 /* Brackets as deep as they nest, with a sum and a product under way around each; every operation in the innermost. */
 #define OPEN "A+B*("
@@ -56,29 +64,29 @@ static int32_t block_inverse(void) { return zov_block_inverse(M, h, N, block, N)
 static int32_t block_formula(void) {
     return zov_formula(M, (const uint8_t *)formula, strlen(formula), h, N, h, N, h, N, h, N, block, N);
 }
-static int32_t check(void) { return zov_check(M, N, T, 0, h, N, roots, N, support, N); }
-static int32_t same(void) { return zov_same(M, N, T, 0, h, N, M, N, T, 0, h, N); }
+static int32_t check(void) { return zov_check(CODE, roots, N, support, N); }
+static int32_t same(void) { return zov_same(CODE, CODE); }
 static int32_t code_essence(void) { return zov_essence(M, h, N, essence, VALUES); }
 static int32_t essence_signature(void) { return zov_signature(M, essence, VALUES, block, N); }
-static int32_t code_roles(void) { return zov_roles(M, N, T, 0, h, N, roles, N); }
-static int32_t word_syndrome(void) { return zov_syndrome(M, N, T, 0, h, N, received, N, syndrome, T); }
-static int32_t encode(void) { return zov_encode(M, N, T, 0, h, N, message, k, word, N); }
-static int32_t word_message(void) { return zov_message(M, N, T, 0, h, N, word, N, message, k); }
-static int32_t repair(void) { return zov_repair(M, N, T, 0, h, N, received, N, repaired, N); }
-static int32_t write_row(void) { return zov_write_row(M, N, T, 0, h, N, 1, 0, word, N); }
-static int32_t read_row(void) { return zov_read_row(M, N, T, 0, h, N, received, N, repaired, N); }
+static int32_t code_roles(void) { return zov_roles(CODE, roles, N); }
+static int32_t word_syndrome(void) { return zov_syndrome(CODE, received, SENT, syndrome, T); }
+static int32_t encode(void) { return zov_encode(CODE, message, k, word, SENT); }
+static int32_t word_message(void) { return zov_message(CODE, word, SENT, message, k); }
+static int32_t repair(void) { return zov_repair(CODE, received, SENT, repaired, SENT); }
+static int32_t write_row(void) { return zov_write_row(CODE, 1, 0, word, SENT); }
+static int32_t read_row(void) { return zov_read_row(CODE, received, SENT, repaired, SENT); }
 static int32_t ride(void) {
-    return zov_ride(M, N, T, 0, h, N, gears, STEPS, lamps, STEPS, turned, STEPS * N, counts, 4);
+    return zov_ride(CODE, gears, STEPS, lamps, STEPS, turned, STEPS * SENT, counts, 4);
 }
 static int32_t senders_start(void) { return zov_senders_start(DASH, waiting, SENDERS, &next, 1); }
 static int32_t senders_offer(void) {
-    return zov_senders_offer(DASH, 0, received, N, waiting, SENDERS, words, SENDERS * N);
+    return zov_senders_offer(DASH, 0, received, SENT, waiting, SENDERS, words, SENDERS * SENT);
 }
 static int32_t senders_round(void) {
-    return zov_senders_round(DASH, waiting, SENDERS, words, SENDERS * N, &next, 1, answers, SENDERS,
-                             handed, SENDERS * N);
+    return zov_senders_round(DASH, waiting, SENDERS, words, SENDERS * SENT, &next, 1, answers, SENDERS,
+                             handed, SENDERS * SENT);
 }
-static int32_t selection_roles(void) { return zov_selection_roles(SELECTION, roles, LENGTH); }
+static int32_t selection_roles(void) { return zov_selection_roles(SELECTION, roles, PLACES); }
 static int32_t selection_syndrome(void) {
     return zov_selection_syndrome(SELECTION, selected_received, LENGTH, syndrome, T);
 }
@@ -158,6 +166,18 @@ static size_t used(const struct call *call) {
     return trial.used;
 }
 
+/* Marks the first of so many places that is a message column by the roles. */
+static void hide_one(uint8_t *marks, int places) {
+    int place = 0;
+    while (place < places && roles[place] == 0)
+        place++;
+    if (place == places) {
+        fprintf(stderr, "no message column can be hidden\n");
+        exit(1);
+    }
+    marks[place] = 1;
+}
+
 int main(void) {
     for (int i = 0; i < N; i++)
         h[i] = (zov_elem)zov_field_inverse(M, N ^ i); /* 1/h_i is i with a further bit set: an accepted signature */
@@ -166,18 +186,22 @@ int main(void) {
         blocks[i] = N / T - 1 - i;
         shifts[i] = i % T;
     }
+    selection_roles();
+    hide_one(selected_hidden, PLACES);
     selected_k = selection_roles();
     selection_write_row();
     memcpy(selected_received, word, LENGTH);
     for (int i = 0; i < T; i++)
         selected_received[i * CHOSEN] ^= 1;
+    code_roles();
+    hide_one(hidden, N);
     k = code_roles();
     write_row();
-    memcpy(received, word, N);
+    memcpy(received, word, SENT);
     for (int i = 0; i < T; i++)
         received[i * (N / T)] ^= 1;
-    for (int i = 0; i < STEPS * N; i++)
-        turned[i] = i % (N / T) == 0; /* as received */
+    for (int i = 0; i < STEPS * SENT; i++)
+        turned[i] = i % SENT % (N / T) == 0; /* as received */
     text_length = sprintf(text, "%6d%6d%6d%6d\n", M, N, T, 0);
     for (int i = 0; i < N; i++)
         text_length += sprintf(text + text_length, "%6d", h[i]);

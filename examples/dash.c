@@ -6,9 +6,10 @@
 #include <stdio.h>
 #include "zovunelith.h"
 
-/* The card of this motorcycle. */
+/* The card of this motorcycle, which hides nothing. */
 enum { M = 5, N = 16, T = 2, OMEGA = 24 };
 static const zov_elem H[N] = {12, 8, 10, 22, 26, 9, 16, 21, 14, 5, 17, 4, 30, 23, 25, 31};
+static const uint8_t HIDDEN[N] = {0};
 
 static const char *const GEARS[] = {"neutral", "first", "second", "third", "fourth", "fifth", "sixth", "high neutral"};
 static const char *const LAMPS[] = {"dark", "green", "amber"};
@@ -27,7 +28,7 @@ int main(void) {
     for (size_t step = 0; step < sizeof RIDE / sizeof *RIDE; step++) {
         const struct event *event = &RIDE[step];
         uint8_t word[N], repaired[N];
-        int32_t written = zov_write_row(M, N, T, OMEGA, H, N, event->gear, event->lamp, word, N);
+        int32_t written = zov_write_row(M, N, T, OMEGA, H, N, HIDDEN, N, event->gear, event->lamp, word, N);
         if (written < 0) {
             fprintf(stderr, "the card or the row is refused by %d\n", -written);
             return 1;
@@ -35,7 +36,7 @@ int main(void) {
         for (int place = 0; place < N; place++)
             word[place] ^= event->turned >> place & 1;
 
-        int32_t read = zov_read_row(M, N, T, OMEGA, H, N, word, N, repaired, N);
+        int32_t read = zov_read_row(M, N, T, OMEGA, H, N, HIDDEN, N, word, N, repaired, N);
         if (read >= 0)
             shown = read;
         if (shown < 0)

@@ -8,9 +8,10 @@
 #include <stdlib.h>
 #include "zovunelith.h"
 
-/* The card of this motorcycle. */
+/* The card of this motorcycle, which hides nothing. */
 enum { M = 5, N = 16, T = 2, OMEGA = 24 };
 static const zov_elem H[N] = {12, 8, 10, 22, 26, 9, 16, 21, 14, 5, 17, 4, 30, 23, 25, 31};
+static const uint8_t HIDDEN[N] = {0};
 
 /* Who sends, by number, and how many words a round repairs. */
 enum { SENDERS = 3, REPAIRS = 1 };
@@ -46,7 +47,7 @@ int main(void) {
     uint32_t next;
     int32_t answers[SENDERS];
     int first[SENDERS] = {0}, longest = 0; /* the round after a word's arrival, and the most rounds that one took */
-    accepted(zov_senders_start(M, N, T, OMEGA, H, N, SENDERS, REPAIRS, waiting, SENDERS, &next, 1));
+    accepted(zov_senders_start(M, N, T, OMEGA, H, N, HIDDEN, N, SENDERS, REPAIRS, waiting, SENDERS, &next, 1));
     printf("senders: %d, repairs in a round: %d, so that a word leaves within %d rounds\n", SENDERS, REPAIRS,
            (SENDERS + REPAIRS - 1) / REPAIRS);
     for (int round = 1; round <= ROUNDS; round++) {
@@ -54,11 +55,11 @@ int main(void) {
             const struct offer *offer = &OFFERS[i];
             if (offer->round != round)
                 continue;
-            accepted(zov_write_row(M, N, T, OMEGA, H, N, offer->gear, offer->lamp, word, N));
+            accepted(zov_write_row(M, N, T, OMEGA, H, N, HIDDEN, N, offer->gear, offer->lamp, word, N));
             for (int place = 0; place < N; place++)
                 word[place] ^= offer->turned >> place & 1;
-            int32_t offered = zov_senders_offer(M, N, T, OMEGA, H, N, SENDERS, REPAIRS, offer->sender, word, N,
-                                                waiting, SENDERS, words, SENDERS * N);
+            int32_t offered = zov_senders_offer(M, N, T, OMEGA, H, N, HIDDEN, N, SENDERS, REPAIRS, offer->sender,
+                                                word, N, waiting, SENDERS, words, SENDERS * N);
             if (offered < 0)
                 printf("%s offers %s, %s: refused by %d\n", NAMES[offer->sender], GEARS[offer->gear],
                        LAMPS[offer->lamp], -offered);
@@ -66,8 +67,8 @@ int main(void) {
                 first[offer->sender] = round;
         }
 
-        accepted(zov_senders_round(M, N, T, OMEGA, H, N, SENDERS, REPAIRS, waiting, SENDERS, words, SENDERS * N,
-                                   &next, 1, answers, SENDERS, handed, SENDERS * N));
+        accepted(zov_senders_round(M, N, T, OMEGA, H, N, HIDDEN, N, SENDERS, REPAIRS, waiting, SENDERS,
+                                   words, SENDERS * N, &next, 1, answers, SENDERS, handed, SENDERS * N));
         printf("round %d\n", round);
         for (int sender = 0; sender < SENDERS; sender++) {
             printf("  %-12s", NAMES[sender]);
@@ -78,7 +79,8 @@ int main(void) {
             if (answers[sender] < 0) {
                 printf("too far (%d)", -answers[sender]);
             } else {
-                int32_t read = accepted(zov_read_row(M, N, T, OMEGA, H, N, handed + sender * N, N, repaired, N));
+                const uint8_t *part = handed + sender * N;
+                int32_t read = accepted(zov_read_row(M, N, T, OMEGA, H, N, HIDDEN, N, part, N, repaired, N));
                 printf("%s, %s (repaired bits: %d)", GEARS[read % 8], LAMPS[read / 8 % 4], answers[sender]);
             }
             int rounds = round - first[sender] + 1;

@@ -13,7 +13,7 @@ use std::hint::black_box;
 use std::process::{self, exit, Command};
 use std::time::Instant;
 use std::{env, fs};
-use zovunelith::{block, field, sheet, Code, Elem, Lamp, Row, Selection, LONGEST_RIDE, MOST_SENDERS};
+use zovunelith::{block, field, nothing_hidden, sheet, Code, Elem, Lamp, Row, Selection, LONGEST_RIDE, MOST_SENDERS};
 
 /// m, n and t.
 type Shape = (u32, u32, u32);
@@ -21,7 +21,7 @@ type Shape = (u32, u32, u32);
 const SHAPES: [Shape; 7] =
     [(5, 16, 2), (8, 64, 4), (8, 128, 8), (8, 128, 64), (11, 512, 32), (16, 512, 8), (16, 512, 256)];
 
-const CALLS: [&str; 30] = [
+const CALLS: [&str; 32] = [
     "field sum",
     "field product",
     "field inverse",
@@ -40,6 +40,8 @@ const CALLS: [&str; 30] = [
     "repair",
     "write row",
     "read row",
+    "short encode",
+    "short repair",
     "step of a ride",
     "senders start",
     "senders offer",
@@ -144,9 +146,8 @@ struct Words {
 
 impl Words {
     fn new(random: &mut Random, selection: Selection) -> Words {
-        let t = selection.code.t as usize;
-        let length = selection.blocks.len() * t;
-        let k = selection.roles(&mut vec![0; length]).expect("an accepted selection") as usize;
+        let (t, length) = (selection.code.t as usize, selection.sent());
+        let k = selection.roles(&mut vec![0; selection.hidden.len()]).expect("an accepted selection") as usize;
         let message: Vec<u8> = (0..k).map(|_| random.below(2) as u8).collect();
         let mut word = vec![0; length];
         selection.encode(&message, &mut word).expect("a message");
@@ -170,7 +171,8 @@ fn half_of_the_blocks(random: &mut Random, code: Code, draws: usize) -> (Vec<u32
         (blocks, (0..half).map(|_| random.below(t) as u32).collect())
     };
     let carries_rows = |(blocks, shifts): &(Vec<u32>, Vec<u32>)| {
-        Selection { code, blocks, shifts }.write_row(FIRST_DARK, &mut vec![0; half * t]).is_ok()
+        let hidden = nothing_hidden((half * t) as u32);
+        Selection { code, blocks, shifts, hidden }.write_row(FIRST_DARK, &mut vec![0; half * t]).is_ok()
     };
     let mut drawn = draw();
     for _ in 1..draws {
@@ -182,7 +184,18 @@ fn half_of_the_blocks(random: &mut Random, code: Code, draws: usize) -> (Vec<u32
     drawn
 }
 
-/// What the calls are given at a shape: a code, and a selection of half its blocks.
+/// Marks that hide half of a code's message columns.
+fn half_of_the_message_columns(random: &mut Random, code: Code) -> Vec<u8> {
+    let mut roles = vec![0; code.n as usize];
+    code.roles(&mut roles).expect("an accepted code");
+    let columns: Vec<usize> = (0..roles.len()).filter(|&place| roles[place] == 1).collect();
+    let mut hidden = vec![0; roles.len()];
+    random.choice(columns.len(), columns.len() / 2).into_iter().for_each(|index| hidden[columns[index]] = 1);
+    hidden
+}
+
+/// What the calls are given at a shape: a code, a selection of half its blocks, and marks that hide half of its message
+/// columns. Code and selection hide nothing.
 struct Inputs {
     m: u32,
     n: usize,
@@ -193,8 +206,10 @@ struct Inputs {
     essence: Vec<Elem>,
     blocks: Vec<u32>,
     shifts: Vec<u32>,
+    hidden: Vec<u8>,
     whole: Words,
     selected: Words,
+    short: Words,
     text: Vec<u8>,
     field: rival::Field,
 }
@@ -268,33 +283,45 @@ impl Inputs {
         let mut random = Random(u64::from(m * 1000 + n + t));
         let h = signature(&mut random, m, n);
         let omega = random.below(1 << m) as u32;
-        let code = Code { m, n, t, omega, h: &h };
+        let code = Code { m, n, t, omega, h: &h, hidden: nothing_hidden(n) };
         let mut essence = vec![0; n.ilog2() as usize + 1];
         zovunelith::essence(m, &h, &mut essence).expect("an accepted signature");
         let count = n / t;
         // The whole code is the selection of all its blocks.
-        let all: Vec<u32> = (0..count).collect();
-        let whole = Words::new(&mut random, Selection { code, blocks: &all, shifts: &vec![0; all.len()] });
+        let (all, no_shifts) = ((0..count).collect::<Vec<u32>>(), vec![0; count as usize]);
+        let whole_code = Selection { code, blocks: &all, shifts: &no_shifts, hidden: code.hidden };
+        let whole = Words::new(&mut random, whole_code);
         // A selection's k is never above the whole code's.
         let draws = if whole.row_received.is_some() { 1000 } else { 1 };
         let (blocks, shifts) = half_of_the_blocks(&mut random, code, draws);
-        let selected = Words::new(&mut random, Selection { code, blocks: &blocks, shifts: &shifts });
+        let places = nothing_hidden(blocks.len() as u32 * t);
+        let selected = Words::new(&mut random, Selection { code, blocks: &blocks, shifts: &shifts, hidden: places });
+        let hidden = half_of_the_message_columns(&mut random, code);
+        let short = Words::new(&mut random, Selection { hidden: &hidden, ..whole_code });
         let entries: Vec<u32> = h.iter().map(|&entry| entry.into()).collect();
         let text = (line(&[m, n, t, omega]) + &line(&entries)).into_bytes();
         let field = rival::Field::new(m);
-        Inputs { m, n: n as usize, t: t as usize, omega, h, essence, blocks, shifts, whole, selected, text, field }
+        let (n, t) = (n as usize, t as usize);
+        Inputs { m, n, t, omega, h, essence, blocks, shifts, hidden, whole, selected, short, text, field }
     }
 
     fn code(&self) -> Code<'_> {
-        Code { m: self.m, n: self.n as u32, t: self.t as u32, omega: self.omega, h: &self.h }
+        let (n, t) = (self.n as u32, self.t as u32);
+        Code { m: self.m, n, t, omega: self.omega, h: &self.h, hidden: nothing_hidden(n) }
     }
 
     fn selection(&self) -> Selection<'_> {
-        Selection { code: self.code(), blocks: &self.blocks, shifts: &self.shifts }
+        let hidden = nothing_hidden(self.selected.length as u32);
+        Selection { code: self.code(), blocks: &self.blocks, shifts: &self.shifts, hidden }
+    }
+
+    fn short_code(&self) -> Code<'_> {
+        Code { hidden: &self.hidden, ..self.code() }
     }
 
     fn rival(&self) -> rival::Code<'_> {
-        rival::Code { field: &self.field, t: self.t, omega: self.omega as Elem, h: &self.h }
+        let hidden = nothing_hidden(self.n as u32);
+        rival::Code { field: &self.field, t: self.t, omega: self.omega as Elem, h: &self.h, hidden }
     }
 
     /// As many senders as there may be, each with a word of t turned places, and as many repairs in a round.
@@ -307,6 +334,9 @@ impl Inputs {
     fn product_call(&self, call: &str) -> Option<Box<dyn FnMut() + '_>> {
         if let Some(call) = call.strip_prefix("selection ") {
             return product_word_call!(self.selection(), &self.selected, call);
+        }
+        if let Some(call) = call.strip_prefix("short ") {
+            return product_word_call!(self.short_code(), &self.short, call);
         }
         let code = self.code();
         let (m, n, a, b) = (self.m, self.n, u32::from(self.h[0]), u32::from(self.h[1]));
@@ -364,16 +394,18 @@ impl Inputs {
     /// The rival's call for the same.
     fn rival_call(&self, call: &str) -> Option<Box<dyn FnMut() + '_>> {
         let code = self.rival();
+        let short_code = rival::Code { hidden: &self.hidden, ..code };
         let check = move |inverses: &mut [Elem]| black_box(code.check(inverses)).expect("accepted");
         if let Some(call) = call.strip_prefix("selection ") {
             let begin = move |inverses: &mut [Elem]| {
                 check(inverses);
-                code.selected(&self.blocks, &self.shifts).expect("blocks")
+                code.selected(&self.blocks, &self.shifts, self.selection().hidden).expect("blocks")
             };
             return rival_word_call(begin, &self.selected, call);
         }
         let (n, a, b) = (self.n, self.h[0], self.h[1]);
         let (mut out, mut inverses, mut short) = (vec![0; n], vec![0; n], vec![0; self.essence.len()]);
+        let mut word = vec![0; self.short.length];
         Some(match call {
             "field sum" => Box::new(move || keep(black_box(a) ^ b)),
             "field product" => Box::new(move || keep(self.field.product(black_box(a), b))),
@@ -386,11 +418,22 @@ impl Inputs {
             "formula" => Box::new(move || {
                 rival::formula(&self.field, FORMULA, [&self.h; 4], &mut out).expect("inverses");
             }),
+            "short encode" => Box::new(move || {
+                black_box(short_code.check(&mut inverses)).expect("accepted");
+                let basis = short_code.marked_basis().expect("message columns");
+                basis.encode_sent(&self.hidden, &self.short.message, &mut word);
+            }),
+            "short repair" => Box::new(move || {
+                black_box(short_code.check(&mut inverses)).expect("accepted");
+                black_box(short_code.marked_basis()).expect("message columns");
+                let columns = short_code.sent();
+                black_box(columns.repair(&inverses, &self.short.received, &mut word).expect("t places"));
+            }),
             "check" => Box::new(move || check(&mut inverses)),
             "same" => Box::new(move || {
                 check(&mut inverses);
                 check(&mut inverses);
-                let card = (self.m, code.t, code.omega, code.h);
+                let card = (self.m, code.t, code.omega, code.h, code.hidden);
                 black_box(card == black_box(card));
             }),
             "essence" => Box::new(move || rival::essence(&self.field, &self.h, &mut short).expect("accepted")),
@@ -454,7 +497,8 @@ fn rival_listing(field: &rival::Field, text: &[u8]) -> String {
     let numbers: Vec<u32> = text.split_whitespace().map(|number| number.parse().expect("a number")).collect();
     let (first, h) = numbers.split_at(4);
     let h: Vec<Elem> = h.iter().map(|&entry| entry as Elem).collect();
-    let code = rival::Code { field, t: first[2] as usize, omega: first[3] as Elem, h: &h };
+    let (t, omega) = (first[2] as usize, first[3] as Elem);
+    let code = rival::Code { field, t, omega, h: &h, hidden: nothing_hidden(first[1]) };
     let (mut inverses, mut roles) = (vec![0; h.len()], vec![0; h.len()]);
     code.check(&mut inverses).expect("accepted");
     let k = code.whole().roles(&mut roles);

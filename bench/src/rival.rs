@@ -278,15 +278,18 @@ pub struct Code<'a> {
     pub t: usize,
     pub omega: Elem,
     pub h: &'a [Elem],
+    pub hidden: &'a [u8],
 }
 
 impl<'a> Code<'a> {
-    /// If the code is accepted, the inverses of its signature are at the front of `inverses`.
+    /// If the code is accepted, the inverses of its signature are at the front of `inverses`. Whether a check column is
+    /// hidden is left to `marked_basis`: with nothing hidden none is.
     pub fn check(&self, inverses: &mut [Elem]) -> Option<()> {
-        if !self.t.is_power_of_two() || self.t > self.h.len() / 2 {
+        if !self.t.is_power_of_two() || self.t > self.h.len() / 2 || self.hidden.len() != self.h.len() {
             return None;
         }
-        check_signature(self.field, self.h, inverses)
+        check_signature(self.field, self.h, inverses)?;
+        are_bits(self.hidden).then_some(())
     }
 
     /// The words over all columns.
@@ -294,10 +297,27 @@ impl<'a> Code<'a> {
         Words { code: self, length: self.h.len(), column: |place| place }
     }
 
-    /// The words over some blocks of columns, if these are blocks, each at most once, and the shifts are below t.
-    pub fn selected(self, blocks: &[u32], shifts: &[u32]) -> Option<Words<'a, impl Fn(usize) -> usize>> {
+    /// An echelon basis over all columns, if no check column is hidden.
+    pub fn marked_basis(self) -> Option<Basis> {
+        let basis = self.whole().basis();
+        let mut marks = self.hidden.iter().enumerate();
+        marks.all(|(place, &mark)| mark == 0 || !basis.leads(place)).then_some(basis)
+    }
+
+    /// The words over the columns that are sent.
+    pub fn sent(self) -> Words<'a, impl Fn(usize) -> usize> {
+        let columns: Vec<usize> = (0..self.h.len()).filter(|&place| self.hidden[place] == 0).collect();
+        Words { code: self, length: columns.len(), column: move |place: usize| columns[place] }
+    }
+
+    /// The words over some blocks of columns, if these are blocks, each at most once, and the shifts are below t. There
+    /// are to be marks, of which none hides a place.
+    pub fn selected(self, blocks: &[u32], shifts: &[u32], hidden: &[u8]) -> Option<Words<'a, impl Fn(usize) -> usize>> {
         let count = self.h.len() / self.t;
         if blocks.is_empty() || blocks.len() > count || shifts.len() != blocks.len() {
+            return None;
+        }
+        if hidden.len() != blocks.len() * self.t || hidden.iter().any(|&mark| mark != 0) {
             return None;
         }
         let mut named: Packed = [0; MOST_WORDS];
@@ -406,6 +426,20 @@ impl Basis {
         for (place, entry) in word.iter_mut().enumerate() {
             *entry = bit(&packed, place) as u8;
         }
+    }
+
+    /// The same with 0 at the hidden places, which the word leaves out.
+    pub fn encode_sent(&self, hidden: &[u8], message: &[u8], word: &mut [u8]) {
+        let (mut bits, mut wide) = (message.iter(), [0; LONGEST]);
+        let wide = &mut wide[..hidden.len()];
+        // The basis takes a bit for each free place.
+        let free = self.free(hidden.len()).map(|place| match hidden[place] {
+            0 => bits.next().copied().unwrap_or(0),
+            _ => 0,
+        });
+        self.encode(free, wide);
+        let sent = wide.iter().zip(hidden).filter(|(_, &mark)| mark == 0);
+        word.iter_mut().zip(sent).for_each(|(entry, (&bit, _))| *entry = bit);
     }
 
     fn message<'a>(&'a self, word: &'a [u8]) -> impl Iterator<Item = u8> + 'a {

@@ -4,11 +4,11 @@
 //!
 //!     cargo run --offline --manifest-path rust/Cargo.toml --example senders
 
-use zovunelith::{Code, Elem, Lamp, Refusal, Row, Senders};
+use zovunelith::{nothing_hidden, Code, Elem, Lamp, Refusal, Row, Senders};
 
 /// The card of this motorcycle.
 const H: [Elem; 16] = [12, 8, 10, 22, 26, 9, 16, 21, 14, 5, 17, 4, 30, 23, 25, 31];
-const CODE: Code = Code { m: 5, n: 16, t: 2, omega: 24, h: &H };
+const CODE: Code = Code { m: 5, n: 16, t: 2, omega: 24, h: &H, hidden: nothing_hidden(16) };
 
 /// Who sends, by number, and how many words a round repairs.
 const NAMES: [&str; 3] = ["gear box", "handlebar", "side stand"];

@@ -50,6 +50,8 @@ extern "C" {
         omega: u32,
         h: *const Elem,
         h_length: usize,
+        hidden: *const u8,
+        hidden_length: usize,
         roots: *mut Elem,
         roots_length: usize,
         support: *mut Elem,
@@ -62,12 +64,16 @@ extern "C" {
         omega1: u32,
         h1: *const Elem,
         h1_length: usize,
+        hidden1: *const u8,
+        hidden1_length: usize,
         m2: u32,
         n2: u32,
         t2: u32,
         omega2: u32,
         h2: *const Elem,
         h2_length: usize,
+        hidden2: *const u8,
+        hidden2_length: usize,
     ) -> i32;
     pub fn zov_essence(m: u32, h: *const Elem, h_length: usize, essence: *mut Elem, essence_length: usize) -> i32;
     pub fn zov_signature(m: u32, essence: *const Elem, essence_length: usize, h: *mut Elem, h_length: usize) -> i32;
@@ -78,6 +84,8 @@ extern "C" {
         omega: u32,
         h: *const Elem,
         h_length: usize,
+        hidden: *const u8,
+        hidden_length: usize,
         roles: *mut u8,
         roles_length: usize,
     ) -> i32;
@@ -88,6 +96,8 @@ extern "C" {
         omega: u32,
         h: *const Elem,
         h_length: usize,
+        hidden: *const u8,
+        hidden_length: usize,
         word: *const u8,
         word_length: usize,
         out: *mut Elem,
@@ -100,6 +110,8 @@ extern "C" {
         omega: u32,
         h: *const Elem,
         h_length: usize,
+        hidden: *const u8,
+        hidden_length: usize,
         message: *const u8,
         message_length: usize,
         word: *mut u8,
@@ -112,6 +124,8 @@ extern "C" {
         omega: u32,
         h: *const Elem,
         h_length: usize,
+        hidden: *const u8,
+        hidden_length: usize,
         word: *const u8,
         word_length: usize,
         message: *mut u8,
@@ -124,6 +138,8 @@ extern "C" {
         omega: u32,
         h: *const Elem,
         h_length: usize,
+        hidden: *const u8,
+        hidden_length: usize,
         received: *const u8,
         received_length: usize,
         repaired: *mut u8,
@@ -136,6 +152,8 @@ extern "C" {
         omega: u32,
         h: *const Elem,
         h_length: usize,
+        hidden: *const u8,
+        hidden_length: usize,
         gear: u32,
         lamp: u32,
         word: *mut u8,
@@ -148,6 +166,8 @@ extern "C" {
         omega: u32,
         h: *const Elem,
         h_length: usize,
+        hidden: *const u8,
+        hidden_length: usize,
         received: *const u8,
         received_length: usize,
         repaired: *mut u8,
@@ -160,6 +180,8 @@ extern "C" {
         omega: u32,
         h: *const Elem,
         h_length: usize,
+        hidden: *const u8,
+        hidden_length: usize,
         gears: *const u8,
         gears_length: usize,
         lamps: *const u8,
@@ -176,6 +198,8 @@ extern "C" {
         omega: u32,
         h: *const Elem,
         h_length: usize,
+        hidden: *const u8,
+        hidden_length: usize,
         senders: u32,
         repairs: u32,
         waiting: *mut u8,
@@ -190,6 +214,8 @@ extern "C" {
         omega: u32,
         h: *const Elem,
         h_length: usize,
+        hidden: *const u8,
+        hidden_length: usize,
         senders: u32,
         repairs: u32,
         sender: u32,
@@ -207,6 +233,8 @@ extern "C" {
         omega: u32,
         h: *const Elem,
         h_length: usize,
+        hidden: *const u8,
+        hidden_length: usize,
         senders: u32,
         repairs: u32,
         waiting: *mut u8,
@@ -231,6 +259,8 @@ extern "C" {
         blocks_length: usize,
         shifts: *const u32,
         shifts_length: usize,
+        hidden: *const u8,
+        hidden_length: usize,
         roles: *mut u8,
         roles_length: usize,
     ) -> i32;
@@ -245,6 +275,8 @@ extern "C" {
         blocks_length: usize,
         shifts: *const u32,
         shifts_length: usize,
+        hidden: *const u8,
+        hidden_length: usize,
         word: *const u8,
         word_length: usize,
         out: *mut Elem,
@@ -261,6 +293,8 @@ extern "C" {
         blocks_length: usize,
         shifts: *const u32,
         shifts_length: usize,
+        hidden: *const u8,
+        hidden_length: usize,
         message: *const u8,
         message_length: usize,
         word: *mut u8,
@@ -277,6 +311,8 @@ extern "C" {
         blocks_length: usize,
         shifts: *const u32,
         shifts_length: usize,
+        hidden: *const u8,
+        hidden_length: usize,
         word: *const u8,
         word_length: usize,
         message: *mut u8,
@@ -293,6 +329,8 @@ extern "C" {
         blocks_length: usize,
         shifts: *const u32,
         shifts_length: usize,
+        hidden: *const u8,
+        hidden_length: usize,
         received: *const u8,
         received_length: usize,
         repaired: *mut u8,
@@ -309,6 +347,8 @@ extern "C" {
         blocks_length: usize,
         shifts: *const u32,
         shifts_length: usize,
+        hidden: *const u8,
+        hidden_length: usize,
         gear: u32,
         lamp: u32,
         word: *mut u8,
@@ -325,6 +365,8 @@ extern "C" {
         blocks_length: usize,
         shifts: *const u32,
         shifts_length: usize,
+        hidden: *const u8,
+        hidden_length: usize,
         received: *const u8,
         received_length: usize,
         repaired: *mut u8,
@@ -348,6 +390,13 @@ pub fn done(returned: i32) -> Result<(), Refusal> {
 /// Calls a function of the library for a code. Further arguments are numbers, or a slice as its pointer and its length.
 macro_rules! call {
     ($code:expr, $function:ident $(, $argument:expr)*) => {
+        $crate::c::call_without_marks!($code, $function, $code.hidden.as_ptr(), $code.hidden.len() $(, $argument)*)
+    };
+}
+
+/// The same for a function that does not take the code's own marks.
+macro_rules! call_without_marks {
+    ($code:expr, $function:ident $(, $argument:expr)*) => {
         // SAFETY: each pointer goes with the length of its slice, and no slice that is written overlaps another: it is
         // borrowed as mutable.
         unsafe {
@@ -356,4 +405,4 @@ macro_rules! call {
     };
 }
 
-pub(crate) use call;
+pub(crate) use {call, call_without_marks};

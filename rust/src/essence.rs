@@ -33,11 +33,11 @@ pub fn essence(m: u32, h: &[Elem], out: &mut [Elem]) -> Result<(), Refusal> {
 /// values, one or more, sum to zero).
 ///
 /// ```
-/// use zovunelith::{signature, Code, Refusal};
+/// use zovunelith::{nothing_hidden, signature, Code, Refusal};
 ///
 /// let mut h = [0; 8];
 /// signature(4, &[1, 2, 4, 8], &mut h)?;
-/// let code = Code { m: 4, n: 8, t: 2, omega: 0, h: &h };
+/// let code = Code { m: 4, n: 8, t: 2, omega: 0, h: &h, hidden: nothing_hidden(8) };
 /// assert_eq!(code.check(&mut [0; 8], &mut [0; 8]), Ok(()));
 ///
 /// // 3 is 1 plus 2

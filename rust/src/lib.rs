@@ -5,14 +5,16 @@
 //!
 //! A [`Code`] is a card: any values may stand in it, and each call refuses by a [`Refusal`] what breaks a rule. Buffers
 //! are lent by the caller and are left alone by a call that is refused, with one exception: a ride that ends by 8 or 11
-//! writes the counts up to there ([`Code::ride`], which also takes room to work in). A [`Selection`] has the calls on
-//! words for some blocks of a code. [`Senders`] take turns at one dash. A signature has a short form, its [`essence`].
+//! writes the counts up to there ([`Code::ride`], which also takes room to work in). For senders with fewer bits a card
+//! marks message columns as hidden ([`Code`] has an example); with [`nothing_hidden`] it sends all. A [`Selection`] has
+//! the calls on words for some blocks of a code. [`Senders`] take turns at one dash. A signature has a short form, its
+//! [`essence`].
 //!
 //! ```
-//! use zovunelith::{Code, Lamp, Refusal, Row};
+//! use zovunelith::{nothing_hidden, Code, Lamp, Refusal, Row};
 //!
 //! let h = [12, 8, 10, 22, 26, 9, 16, 21, 14, 5, 17, 4, 30, 23, 25, 31];
-//! let code = Code { m: 5, n: 16, t: 2, omega: 24, h: &h };
+//! let code = Code { m: 5, n: 16, t: 2, omega: 24, h: &h, hidden: nothing_hidden(16) };
 //!
 //! let mut word = [0; 16];
 //! code.write_row(Row { gear: 1, lamp: Lamp::Dark }, &mut word)?;
@@ -42,7 +44,7 @@ mod senders;
 pub mod sheet;
 mod words;
 
-pub use code::Code;
+pub use code::{nothing_hidden, Code};
 pub use essence::{essence, signature};
 pub use refusal::Refusal;
 pub use ride::{Counts, Step, LONGEST_RIDE};

@@ -46,10 +46,12 @@ pub enum Refusal {
     Sender = 18,
     /// 19: a word is offered while that sender has one waiting.
     Waiting = 19,
+    /// 20: a mark of which places are hidden is neither 0 nor 1, or hides a check column.
+    Hidden = 20,
 }
 
 /// Every refusal, with its word on the bench and its meaning.
-const TABLE: [(Refusal, &str, &str); 19] = [
+const TABLE: [(Refusal, &str, &str); 20] = [
     (Refusal::Width, "width", "m outside 2 to 16"),
     (Refusal::Length, "length", "n, a block, an essence, a ride or a lent buffer has another length than is asked for"),
     (Refusal::Stranger, "stranger", "an element or offset of 2^m or more"),
@@ -69,6 +71,7 @@ const TABLE: [(Refusal, &str, &str); 19] = [
     (Refusal::Dependent, "dependent", "a non-empty choice of an essence's values sums to zero"),
     (Refusal::Sender, "sender", "S, R or a sender's number out of range"),
     (Refusal::Waiting, "waiting", "a word offered while that sender has one"),
+    (Refusal::Hidden, "hidden", "a mark of a place other than 0 or 1, or a hidden check column"),
 ];
 
 impl Refusal {
@@ -77,7 +80,7 @@ impl Refusal {
         TABLE[number as usize - 1].0
     }
 
-    /// Its number, from 1 to 19.
+    /// Its number, from 1 to 20.
     pub fn number(self) -> u32 {
         self as u32
     }

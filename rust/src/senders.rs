@@ -23,10 +23,10 @@ pub const NONE: i32 = i32::MIN;
 /// are lent for as long as this value lives.
 ///
 /// ```
-/// use zovunelith::{Code, Lamp, Refusal, Row, Senders};
+/// use zovunelith::{nothing_hidden, Code, Lamp, Refusal, Row, Senders};
 ///
 /// let h = [12, 8, 10, 22, 26, 9, 16, 21, 14, 5, 17, 4, 30, 23, 25, 31];
-/// let code = Code { m: 5, n: 16, t: 2, omega: 24, h: &h };
+/// let code = Code { m: 5, n: 16, t: 2, omega: 24, h: &h, hidden: nothing_hidden(16) };
 /// let mut word = [0; 16];
 /// code.write_row(Row { gear: 1, lamp: Lamp::Dark }, &mut word)?;
 /// let mut turned = word;
@@ -60,16 +60,17 @@ pub struct Senders<'a> {
 
 impl<'a> Senders<'a> {
     /// So many senders, and so many repairs in each round: both stay, and so does the code. No word waits, and the turn
-    /// is that of sender 0. `waiting` has a byte for each sender and `words` has n; what stands in them doesn't matter.
+    /// is that of sender 0. For each sender `waiting` has a byte, and `words` a byte for each sent place; what stands
+    /// in them doesn't matter.
     ///
-    /// Refused by 1 to 7, with 2 for another length of `waiting`; then by 18 (senders or repairs not from 1 to
+    /// Refused by 1 to 7, with 2 for another length of `waiting`; then by 20 and 18 (senders or repairs not from 1 to
     /// [`MOST_SENDERS`]). Another length of `words` is not found here: it is refused by 2 in the first offer or round.
     ///
     /// ```
-    /// use zovunelith::{Code, Refusal, Senders};
+    /// use zovunelith::{nothing_hidden, Code, Refusal, Senders};
     ///
     /// let h = [12, 8, 10, 22, 26, 9, 16, 21, 14, 5, 17, 4, 30, 23, 25, 31];
-    /// let code = Code { m: 5, n: 16, t: 2, omega: 24, h: &h };
+    /// let code = Code { m: 5, n: 16, t: 2, omega: 24, h: &h, hidden: nothing_hidden(16) };
     /// let (mut waiting, mut words) = ([1; 3], [0; 3 * 16]);
     ///
     /// assert_eq!(Senders::start(code, 3, 9, &mut waiting, &mut words).err(), Some(Refusal::Sender));
@@ -92,16 +93,16 @@ impl<'a> Senders<'a> {
         Ok(Senders { code, senders, repairs, waiting, words, next })
     }
 
-    /// Has a sender's word of n bytes wait.
+    /// Has a sender's word wait, a byte for each sent place.
     ///
     /// Refused by 2 (the length of the word, or of the lent `words`), 18 (no such sender), 19 (a word of that sender
     /// waits already), 8. The code is as it was accepted at the start, so that nothing refuses it here.
     ///
     /// ```
-    /// use zovunelith::{Code, Lamp, Refusal, Row, Senders};
+    /// use zovunelith::{nothing_hidden, Code, Lamp, Refusal, Row, Senders};
     ///
     /// let h = [12, 8, 10, 22, 26, 9, 16, 21, 14, 5, 17, 4, 30, 23, 25, 31];
-    /// let code = Code { m: 5, n: 16, t: 2, omega: 24, h: &h };
+    /// let code = Code { m: 5, n: 16, t: 2, omega: 24, h: &h, hidden: nothing_hidden(16) };
     /// let mut word = [0; 16];
     /// code.write_row(Row { gear: 1, lamp: Lamp::Dark }, &mut word)?;
     ///
@@ -117,16 +118,16 @@ impl<'a> Senders<'a> {
         self.code.senders_offer(self.senders, self.repairs, sender, word, self.waiting, self.words)
     }
 
-    /// Hands out and repairs what is due. `handed` has n bytes for each sender: where a word left and is not too far,
-    /// the code word stands in its sender's part, and every other part is left alone.
+    /// Hands out and repairs what is due. `handed` has room for a word of each sender: where a word left and is not too
+    /// far, the code word stands in its sender's part, and every other part is left alone.
     ///
     /// Refused by 2 (the length of `handed`, or of the lent `words`) and by nothing else; then every word still waits.
     ///
     /// ```
-    /// use zovunelith::{Code, Lamp, Refusal, Row, Senders};
+    /// use zovunelith::{nothing_hidden, Code, Lamp, Refusal, Row, Senders};
     ///
     /// let h = [12, 8, 10, 22, 26, 9, 16, 21, 14, 5, 17, 4, 30, 23, 25, 31];
-    /// let code = Code { m: 5, n: 16, t: 2, omega: 24, h: &h };
+    /// let code = Code { m: 5, n: 16, t: 2, omega: 24, h: &h, hidden: nothing_hidden(16) };
     /// let mut word = [0; 16];
     /// code.write_row(Row { gear: 1, lamp: Lamp::Dark }, &mut word)?;
     /// let (mut two, mut three) = (word, word);
@@ -182,10 +183,11 @@ impl Answers {
 }
 
 /// Turns for several senders with a state that is laid out by the caller, who may put anything there. With S senders
-/// `waiting` has S bytes, 1 for each sender whose word waits and 0 for another; `words` has S words of n bytes, one
-/// after the other; `next` has one number, the sender whose turn it is. Other lengths are refused by 2.
+/// `waiting` has S bytes, 1 for each sender whose word waits and 0 for another; `words` has S words, one after the
+/// other, with a byte for each sent place; `next` has one number, the sender whose turn it is. Other lengths are
+/// refused by 2: those of words after 20, and the others after 1.
 impl Code<'_> {
-    /// [`Senders::start`]: has no word wait and gives sender 0 the turn. Refused by 1 to 7, 18.
+    /// [`Senders::start`]: has no word wait and gives sender 0 the turn. Refused by 1 to 7, 20, 18.
     pub fn senders_start(
         &self,
         senders: u32,
@@ -197,8 +199,8 @@ impl Code<'_> {
         done(call!(self, zov_senders_start, senders, repairs, list, length, next.as_mut_ptr(), next.len()))
     }
 
-    /// [`Senders::offer`]: puts the word into its sender's part of `words`. Refused by 1 to 7, 18, 19 (the sender's
-    /// byte in `waiting` is not 0), 8 (a byte of the word is neither 0 nor 1).
+    /// [`Senders::offer`]: puts the word into its sender's part of `words`. Refused by 1 to 7, 20, 2 (the word and
+    /// `words`), 18, 19 (the sender's byte in `waiting` is not 0), 8 (a byte of the word is neither 0 nor 1).
     pub fn senders_offer(
         &self,
         senders: u32,
@@ -224,8 +226,8 @@ impl Code<'_> {
     }
 
     /// [`Senders::round`]: `answers` has a number for each sender, a count, or −10 for a word that is too far, or
-    /// [`NONE`] where no word left; `handed` has n bytes for each. Refused by 1 to 7, 18 (the number in `next` too), 8
-    /// (a byte of `waiting`, or of a word that waits, is neither 0 nor 1).
+    /// [`NONE`] where no word left; `handed` has room for a word of each. Refused by 1 to 7, 20, 2 (`words` and
+    /// `handed`), 18 (the number in `next` too), 8 (a byte of `waiting`, or of a word that waits, is neither 0 nor 1).
     // These are the lists of the call in C, each to be lent in any length.
     #[allow(clippy::too_many_arguments)]
     pub fn senders_round(

@@ -1,4 +1,4 @@
-//! Words of bits, and bytes that are none.
+//! Words of bits, the places that hold one, and bytes that are none.
 
 /// Bytes that are no bits.
 pub const BAD_BYTES: [u8; 6] = [2, 3, 48, 128, 254, 255];
@@ -11,6 +11,11 @@ pub fn bits(number: usize, length: usize) -> Vec<u8> {
 /// The word of n bits that holds 1 at these places, which all differ.
 pub fn ones_at(n: usize, places: &[usize]) -> Vec<u8> {
     turned(&vec![0; n], places)
+}
+
+/// The places of a list that hold this byte, in rising order.
+pub fn places_of(byte: u8, list: &[u8]) -> Vec<usize> {
+    (0..list.len()).filter(|&place| list[place] == byte).collect()
 }
 
 /// The word with these places turned, which all differ.

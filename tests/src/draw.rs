@@ -1,7 +1,9 @@
-//! Random blocks, codes and selections: accepted ones of every shape, and codes with chosen faults.
+//! Random blocks, codes and selections: accepted ones of every shape, with places hidden or not, and codes and marks
+//! with chosen faults.
 
+use crate::bits::{places_of, BAD_BYTES};
 use crate::random::Random;
-use crate::reference::columns::{block_count, Selection};
+use crate::reference::columns::{block_count, Selection, Setting};
 use crate::reference::essence::is_sum;
 use crate::reference::field;
 use crate::reference::params::{Params, Shape, LENGTHS, ROWS};
@@ -180,10 +182,10 @@ pub fn twin_signature(random: &mut Random, m: u32, n: u32) -> Vec<Elem> {
     signature_from(m, first, &steps)
 }
 
-/// An accepted code with a random offset.
+/// An accepted code with a random offset, which hides nothing.
 pub fn params(random: &mut Random, m: u32, n: u32, t: u32) -> Params {
     let h = signature(random, m, n);
-    Params { m, n, t, omega: element(random, m).into(), h }
+    Params::new(m, t, element(random, m).into(), h)
 }
 
 /// Offsets to try one by one: all of them, or in a large field the first, the last and some between.
@@ -195,20 +197,48 @@ pub fn offsets(random: &mut Random, m: u32) -> Vec<u32> {
     [0].into_iter().chain(between).chain([field::size(m) - 1]).collect()
 }
 
-/// A selection of `count` blocks of an accepted code, in any order and with any shifts.
+/// A selection of `count` blocks of an accepted code, in any order and with any shifts. It hides nothing.
 pub fn selection(random: &mut Random, params: &Params, count: usize) -> Selection {
-    let blocks = random.choice(block_count(params), count).into_iter().map(|block| block as u32).collect();
-    let shifts = (0..count).map(|_| random.below(params.t as usize) as u32).collect();
-    Selection { params: params.clone(), blocks, shifts }
+    let blocks: Vec<u32> = random.choice(block_count(params), count).into_iter().map(|block| block as u32).collect();
+    let shifts: Vec<u32> = (0..count).map(|_| random.below(params.t as usize) as u32).collect();
+    Selection::new(params, &blocks, &shifts)
 }
 
-/// A code of each shape with n at most `longest`, and beside each the code over a selection of its blocks.
+/// A selection of any number of blocks.
+pub fn any_selection(random: &mut Random, params: &Params) -> Selection {
+    let count = 1 + random.below(block_count(params));
+    selection(random, params, count)
+}
+
+/// An accepted setting with message columns hidden, where there are any: one, some or all of them.
+pub fn shortened<S: Setting>(random: &mut Random, setting: &S) -> S {
+    let columns = places_of(1, &setting.code().roles);
+    let counts = [columns.len().min(1), columns.len(), random.below(columns.len() + 1)];
+    let count = random.pick(&counts);
+    hiding_some(random, setting, &columns, count)
+}
+
+/// An accepted setting with so many of its message columns sent, or all where there are no more, and the others hidden.
+pub fn shortened_to<S: Setting>(random: &mut Random, setting: &S, k: usize) -> S {
+    let columns = places_of(1, &setting.code().roles);
+    hiding_some(random, setting, &columns, columns.len().saturating_sub(k))
+}
+
+/// The setting with so many of these places hidden.
+fn hiding_some<S: Setting>(random: &mut Random, setting: &S, places: &[usize], count: usize) -> S {
+    let chosen: Vec<usize> = random.choice(places.len(), count).into_iter().map(|index| places[index]).collect();
+    setting.hiding(&chosen)
+}
+
+/// A code of each shape with n at most `longest`, beside each the code over a selection of its blocks, and beside both
+/// what is left with message columns hidden.
 pub fn codes(random: &mut Random, shapes: Vec<Shape>, longest: u32) -> Vec<Code> {
     let mut codes = Vec::new();
     for (m, n, t) in shapes.into_iter().filter(|shape| shape.1 <= longest) {
         let params = params(random, m, n, t);
-        let count = 1 + random.below(block_count(&params));
-        codes.extend([Code::new(&params), selection(random, &params, count).code()]);
+        let selection = any_selection(random, &params);
+        codes.extend([params.code(), selection.code()]);
+        codes.extend([shortened(random, &params).code(), shortened(random, &selection).code()]);
     }
     codes
 }
@@ -275,6 +305,41 @@ pub fn one_or_two<Fault: Copy>(faults: &[Fault]) -> Vec<Vec<Fault>> {
         sets.extend(faults[..index].iter().map(|&other| vec![other, one]));
     }
     sets
+}
+
+/// A fault of marks.
+#[derive(Clone, Copy, Debug, PartialEq)]
+pub enum MarkFault {
+    /// Another number of marks than of places.
+    Length,
+    /// A mark other than 0 or 1.
+    NoMark,
+    /// A hidden check column.
+    HiddenCheck,
+}
+
+pub const MARK_FAULTS: [MarkFault; 3] = [MarkFault::Length, MarkFault::NoMark, MarkFault::HiddenCheck];
+
+impl MarkFault {
+    pub fn number(self) -> u32 {
+        match self {
+            MarkFault::Length => 2,
+            MarkFault::NoMark | MarkFault::HiddenCheck => 20,
+        }
+    }
+}
+
+/// Makes these faults in marks that have none, for places of these roles.
+pub fn spoil_marks(random: &mut Random, hidden: &mut Vec<u8>, roles: &[u8], faults: &[MarkFault]) {
+    if faults.contains(&MarkFault::HiddenCheck) {
+        hidden[random.pick(&places_of(0, roles))] = 1;
+    }
+    if faults.contains(&MarkFault::NoMark) {
+        hidden[random.below(roles.len())] = random.pick(&BAD_BYTES);
+    }
+    if faults.contains(&MarkFault::Length) {
+        hidden.resize(other_length(random, roles.len()), 0);
+    }
 }
 
 /// Widths outside the table, among them ones that a cut to fewer bits would bring back in.
@@ -357,6 +422,7 @@ pub fn damaged_code(random: &mut Random, m: u32, n: u32, t: u32, faults: &[CodeF
         params.n = random.pick(&BAD_LENGTHS);
         if random.below(2) == 0 && params.n <= 1024 {
             params.h.resize(params.n as usize, 1);
+            params.hidden.resize(params.n as usize, 0);
         }
     }
     if has(CodeFault::Width) {

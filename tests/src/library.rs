@@ -2,13 +2,17 @@
 
 use crate::canary::Lent;
 use crate::reference::columns::Setting;
+use crate::reference::params::Params;
 use zovunelith::{Code, Elem, Refusal, Selection};
 
-/// m, n, t and ω.
-type Numbers = (u32, u32, u32, u32);
+/// The numbers of a code with a signature and marks that are lent apart.
+fn lent_code<'a>(&Params { m, n, t, omega, .. }: &Params, h: &'a [Elem], hidden: &'a [u8]) -> Code<'a> {
+    Code { m, n, t, omega, h, hidden }
+}
 
-fn code((m, n, t, omega): Numbers, h: &[Elem]) -> Code<'_> {
-    Code { m, n, t, omega, h }
+/// A code as the crate takes it.
+pub fn code(params: &Params) -> Code<'_> {
+    lent_code(params, &params.h, &params.hidden)
 }
 
 fn numbered<T>(answer: Result<T, Refusal>) -> Result<T, u32> {
@@ -55,20 +59,6 @@ pub mod block {
     }
 }
 
-/// Checking a code and comparing two.
-pub mod params {
-    use super::{code, numbered, Numbers};
-    use zovunelith::Elem;
-
-    pub fn check(numbers: Numbers, h: &[Elem], roots: &mut [Elem], support: &mut [Elem]) -> Result<(), u32> {
-        numbered(code(numbers, h).check(roots, support))
-    }
-
-    pub fn same(numbers1: Numbers, h1: &[Elem], numbers2: Numbers, h2: &[Elem]) -> Result<bool, u32> {
-        numbered(code(numbers1, h1).same(&code(numbers2, h2)))
-    }
-}
-
 /// The essence of a signature, and the signature of an essence.
 pub mod essence {
     use super::numbered;
@@ -83,14 +73,15 @@ pub mod essence {
     }
 }
 
-/// Makes a call on a whole code, and sees that it leaves the signature alone.
+/// Makes a call on a whole code, and sees that it leaves the signature and the marks alone.
 macro_rules! call_on_code {
     ($params:expr, $code:ident => $call:expr) => {{
         let params = $params;
-        let h = Lent::holding(&params.h);
-        let $code = code((params.m, params.n, params.t, params.omega), h.slice());
+        let (h, hidden) = (Lent::holding(&params.h), Lent::holding(&params.hidden));
+        let $code = lent_code(params, h.slice(), hidden.slice());
         let answer = $call;
         h.assert_unchanged();
+        hidden.assert_unchanged();
         numbered(answer)
     }};
 }
@@ -102,14 +93,38 @@ macro_rules! call {
             None => code.$method($($argument),*),
             Some((blocks, shifts)) => {
                 let (blocks, shifts) = (Lent::holding(blocks), Lent::holding(shifts));
-                let selection = Selection { code, blocks: blocks.slice(), shifts: shifts.slice() };
+                let hidden = Lent::holding($setting.hidden());
+                let selection =
+                    Selection { code, blocks: blocks.slice(), shifts: shifts.slice(), hidden: hidden.slice() };
                 let answer = selection.$method($($argument),*);
                 blocks.assert_unchanged();
                 shifts.assert_unchanged();
+                hidden.assert_unchanged();
                 answer
             }
         })
     };
+}
+
+/// Checking a code and comparing two.
+pub mod params {
+    use super::*;
+
+    #[track_caller]
+    pub fn check(params: &Params, roots: &mut [Elem], support: &mut [Elem]) -> Result<(), u32> {
+        call_on_code!(params, code => code.check(roots, support))
+    }
+
+    #[track_caller]
+    pub fn same(one: &Params, other: &Params) -> Result<bool, u32> {
+        call_on_code!(one, code => {
+            let (h, hidden) = (Lent::holding(&other.h), Lent::holding(&other.hidden));
+            let answer = code.same(&lent_code(other, h.slice(), hidden.slice()));
+            h.assert_unchanged();
+            hidden.assert_unchanged();
+            answer
+        })
+    }
 }
 
 /// Roles, syndrome, encoding and taking the message out.
@@ -167,7 +182,6 @@ pub mod rows {
 /// Rides.
 pub mod ride {
     use super::*;
-    use crate::reference::params::Params;
     use zovunelith::{Counts, Step};
 
     /// The most steps of a ride.
@@ -187,7 +201,7 @@ pub mod ride {
 
     /// The room that steps need.
     pub fn room(params: &Params, steps: usize) -> usize {
-        code((params.m, params.n, params.t, params.omega), &params.h).ride_room(steps)
+        code(params).ride_room(steps)
     }
 }
 

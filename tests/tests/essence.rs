@@ -6,7 +6,7 @@ use zovunelith_tests::library;
 use zovunelith_tests::random::Random;
 use zovunelith_tests::reference::essence::{self as reference, is_sum};
 use zovunelith_tests::reference::field;
-use zovunelith_tests::reference::params::{cauchy_sequences, code_a, code_t, LENGTHS, ROWS};
+use zovunelith_tests::reference::params::{cauchy_sequences, code_a, code_t, Params, LENGTHS, ROWS};
 use zovunelith_tests::Elem;
 
 /// A conversion, named by what it gives.
@@ -132,10 +132,10 @@ fn go_together(m: u32, values: &[Elem], h: &[Elem]) {
     }
     for t in ROWS.into_iter().filter(|&t| t as usize <= h.len() / 2) {
         let (mut roots, mut support) = (vec![0; h.len()], vec![0; h.len()]);
-        let numbers = (m, h.len() as u32, t, 0);
-        assert_eq!(library::params::check(numbers, h, &mut roots, &mut support), Ok(()), "{numbers:?}, {h:?}");
+        let params = Params::new(m, t, 0, h.to_vec());
+        assert_eq!(library::params::check(&params, &mut roots, &mut support), Ok(()), "{params:?}");
         let listed: Vec<Elem> = (0..steps.len()).map(|s| support[1 << s]).chain([roots[0]]).collect();
-        assert_eq!(listed, values, "{numbers:?}");
+        assert_eq!(listed, values, "{params:?}");
     }
 }
 

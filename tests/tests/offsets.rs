@@ -42,7 +42,10 @@ fn any_input(random: &mut Random, decoder: &Decoder) -> Input {
         input.row = Row { gear: random.below(9) as u32, lamp: random.below(4) as u32 };
     }
     match random.below(12) {
-        0 => input.word.push(0),
+        0 => {
+            input.word.push(0);
+            input.roles_length += 1;
+        }
         1 => input.repaired_length -= 1,
         2 => input.message.push(0),
         3 => input.syndrome_length += 1,
@@ -136,7 +139,7 @@ fn calls_on_lists_that_are_no_selection() {
 /// The roots and the support of an accepted code.
 fn checked(code: &Params) -> (Vec<Elem>, Vec<Elem>) {
     let (mut roots, mut support) = (vec![0; code.n as usize], vec![0; code.n as usize]);
-    let answer = params::check((code.m, code.n, code.t, code.omega), &code.h, &mut roots, &mut support);
+    let answer = params::check(code, &mut roots, &mut support);
     assert_eq!(answer, Ok(()), "{code:?}");
     (roots, support)
 }
@@ -147,8 +150,7 @@ fn checked(code: &Params) -> (Vec<Elem>, Vec<Elem>) {
 fn codes_that_differ_in_the_offset_alone() {
     let mut random = Random::new(1004);
     for (one, other) in pairs(&mut random, draw::shapes(), 1) {
-        let numbers = |code: &Params| (code.m, code.n, code.t, code.omega);
-        assert_eq!(params::same(numbers(&one), &one.h, numbers(&other), &other.h), Ok(false), "{one:?}");
+        assert_eq!(params::same(&one, &other), Ok(false), "{one:?}");
         let apart = (one.omega ^ other.omega) as Elem;
         let ((z, l), (moved_z, moved_l)) = (checked(&one), checked(&other));
         for i in 0..z.len() {

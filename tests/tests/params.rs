@@ -11,20 +11,14 @@ use zovunelith_tests::Elem;
 /// z and L, as a check gives them.
 type Checked = Result<(Vec<Elem>, Vec<Elem>), u32>;
 
-fn numbers(params: &Params) -> (u32, u32, u32, u32) {
-    (params.m, params.n, params.t, params.omega)
-}
-
 /// Checks a code with canaries around every buffer and compares answer and buffers with the second implementation's.
 #[track_caller]
 fn compare_lent(params: &Params, roots_length: usize, support_length: usize) -> Checked {
     let expected = reference::check(params, roots_length, support_length);
-    let h = Lent::holding(&params.h);
     let mut roots = Lent::marked(roots_length);
     let mut support = Lent::marked(support_length);
-    let answer = library::check(numbers(params), h.slice(), roots.slice_mut(), support.slice_mut());
+    let answer = library::check(params, roots.slice_mut(), support.slice_mut());
     assert_eq!(answer, expected.as_ref().map(|_| ()).map_err(|&number| number), "{params:?}");
-    h.assert_unchanged();
     roots.assert_holds(expected.as_ref().ok().map(|lists| lists.0.as_slice()));
     support.assert_holds(expected.as_ref().ok().map(|lists| lists.1.as_slice()));
     expected
@@ -41,16 +35,12 @@ fn compare(params: &Params) -> Checked {
 #[track_caller]
 fn compare_two(one: &Params, other: &Params) -> Result<bool, u32> {
     let expected = reference::same(one, other);
-    let (h1, h2) = (Lent::holding(&one.h), Lent::holding(&other.h));
-    let answer = library::same(numbers(one), h1.slice(), numbers(other), h2.slice());
-    assert_eq!(answer, expected, "{one:?} and {other:?}");
-    h1.assert_unchanged();
-    h2.assert_unchanged();
+    assert_eq!(library::same(one, other), expected, "{one:?} and {other:?}");
     expected
 }
 
 fn small(m: u32, omega: u32, h: &[Elem]) -> Params {
-    Params { m, n: h.len() as u32, t: 1, omega, h: h.to_vec() }
+    Params::new(m, 1, omega, h.to_vec())
 }
 
 #[test]
@@ -89,7 +79,7 @@ fn limits_of_long_codes() {
         assert_eq!(compare(&Params { m: 17, ..params.clone() }), Err(1));
         assert_eq!(compare(&Params { n: 1024, ..params.clone() }), Err(2));
         // For m = 9 twice the entries are of a length that codes have, but they repeat.
-        let longer = Params { n: 2 * n, h: [&params.h[..], &params.h].concat(), ..params };
+        let longer = Params::new(m, params.t, params.omega, params.h.repeat(2));
         assert_eq!(compare(&longer), Err(if n == 512 { 2 } else { 6 }));
         assert_eq!(compare(&Params { m: 17, ..longer }), Err(1));
     }
@@ -326,7 +316,7 @@ fn other_lengths_of_codes() {
     let mut random = Random::new(310);
     for n in BAD_LENGTHS {
         let h: Vec<Elem> = (0..n.min(1024)).map(|_| draw::nonzero(&mut random, 16)).collect();
-        assert_eq!(compare(&Params { m: 16, n, t: 1, omega: 0, h }), Err(2), "n {n}");
+        assert_eq!(compare(&Params { n, ..small(16, 0, &h) }), Err(2), "n {n}");
     }
     for (m, n, t) in draw::fewer_shapes() {
         let params = draw::params(&mut random, m, n, t);
@@ -371,7 +361,7 @@ fn any_codes_at_all() {
         let small_entries = random.below(8);
         let h = (0..n).map(|_| (random.draw() as Elem) >> (small_entries * 2)).collect();
         let omega = (random.draw() as u32) >> random.below(32);
-        let answer = compare(&Params { m, n, t, omega, h });
+        let answer = compare(&Params::new(m, t, omega, h));
         answers[answer.map_or_else(|number| number as usize, |_| 0)] += 1;
     }
     assert!(answers.iter().all(|&count| count > 10), "every answer was among them: {answers:?}");
@@ -429,13 +419,11 @@ fn codes_that_differ_in_one_number() {
         }
     }
     // The same two entries in two fields.
-    let small = |m| Params { m, n: 2, t: 1, omega: 0, h: vec![1, 2] };
-    assert_eq!(compare_two(&small(2), &small(3)), Ok(false));
+    assert_eq!(compare_two(&small(2, 0, &[1, 2]), &small(3, 0, &[1, 2])), Ok(false));
     // n = 2 lets one entry be exchanged for another.
-    let other = Params { h: vec![1, 3], ..small(2) };
-    assert_eq!(compare_two(&small(2), &other), Ok(false));
-    assert_eq!(compare_two(&small(2), &Params { h: vec![3, 2], ..small(2) }), Ok(false));
-    assert_eq!(compare_two(&small(2), &small(2)), Ok(true));
+    assert_eq!(compare_two(&small(2, 0, &[1, 2]), &small(2, 0, &[1, 3])), Ok(false));
+    assert_eq!(compare_two(&small(2, 0, &[1, 2]), &small(2, 0, &[3, 2])), Ok(false));
+    assert_eq!(compare_two(&small(2, 0, &[1, 2]), &small(2, 0, &[1, 2])), Ok(true));
 }
 
 /// A fault in either code brings its number, the lowest of both codes, whichever comes first.

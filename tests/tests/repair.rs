@@ -312,7 +312,8 @@ fn bytes_that_are_no_bits() {
     }
 }
 
-/// The faults of codes, lengths, bytes and words that are too far, together: 1 to 7, then 8, then 10.
+/// The faults of codes, lengths, bytes and words that are too far, together: 1 to 7, then 2 for the words, then 8, then
+/// 10.
 #[test]
 fn faults_together() {
     let mut random = Random::new(510);
@@ -332,9 +333,9 @@ fn faults_together() {
                 }
                 let lent = if repaired_length { wrong } else { right };
                 let length = received_length || repaired_length;
-                let of_code = faults.iter().map(|fault: &CodeFault| fault.number()).chain(length.then_some(2)).min();
+                let of_code = faults.iter().map(|fault: &CodeFault| fault.number()).min();
                 let expected = reference::repair(&params, &received, lent);
-                if let Some(number) = of_code.or(byte.then_some(8)) {
+                if let Some(number) = of_code.or(length.then_some(2)).or(byte.then_some(8)) {
                     assert_eq!(expected, Err(number), "{faults:?}, {choice:03b}: {params:?}");
                 }
                 repair_gives(&params, &received, Lent::marked(lent), &expected);

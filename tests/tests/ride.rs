@@ -1,139 +1,24 @@
 //! Rides, against the list of their steps' ends, and against the same steps made by hand.
 
 use std::collections::BTreeSet;
-use zovunelith::{Counts, Lamp, Step};
-use zovunelith_tests::bits::{bits, ones_at, turned, BAD_BYTES};
+use zovunelith::{Lamp, Step};
+use zovunelith_tests::bits::{bits, ones_at, BAD_BYTES};
 use zovunelith_tests::canary::{pointer, pointer_mut, Lent};
-use zovunelith_tests::draw::{self, other_length, other_lengths, CodeFault, BAD_LENGTHS, BAD_WIDTHS};
+use zovunelith_tests::draw::{self, other_length, other_lengths, CodeFault, MarkFault, BAD_LENGTHS, BAD_WIDTHS};
 use zovunelith_tests::expect::ride_gives;
-use zovunelith_tests::library::{ride as library, rows as library_rows};
+use zovunelith_tests::library::ride as library;
 use zovunelith_tests::random::Random;
+use zovunelith_tests::reference::columns::Setting;
 use zovunelith_tests::reference::params::{code_a, code_t, Params, Shape};
 use zovunelith_tests::reference::repair::Decoder;
 use zovunelith_tests::reference::ride::{self as reference, counts, End, Lists, Ridden, COUNTS, LONGEST};
 use zovunelith_tests::reference::rows::{self, message, Row};
-use zovunelith_tests::reference::words::{self, Code};
+use zovunelith_tests::reference::words::Code;
+use zovunelith_tests::rides::{
+    any_lists, any_ride, compare, compare_steps, done, marks_towards, push, refused, spoil_mark, spoil_row, steps_give,
+    steps_of, NO_ROWS,
+};
 use zovunelith_tests::Elem;
-
-/// Gears and lamps that are no row, among them ones that a cut to fewer bits would bring back in.
-const NO_ROWS: [(u8, u8); 12] = [
-    (1, 1),
-    (6, 1),
-    (8, 0),
-    (8 + 1, 0),
-    (16, 2),
-    (128 + 7, 1),
-    (255, 2),
-    (0, 3),
-    (1, 4),
-    (7, 8 + 1),
-    (2, 128),
-    (255, 255),
-];
-
-/// A ride that is refused before it starts.
-fn refused(number: u32) -> Ridden {
-    Ridden { answer: Err(number), counts: None }
-}
-
-/// A ride whose steps end so, of which none is left out.
-fn done(ends: &[End]) -> Ridden {
-    Ridden { answer: Ok(()), counts: Some(counts(ends)) }
-}
-
-/// Makes a ride and compares with the second implementation.
-#[track_caller]
-fn compare(params: &Params, lists: &Lists, counts_length: usize) -> Ridden {
-    let expected = reference::ride(params, lists, counts_length);
-    ride_gives(params, lists, Lent::marked(counts_length), &expected);
-    expected
-}
-
-/// The same on a code that has room for rows, with lists whose lengths are right; and the same steps made by hand.
-#[track_caller]
-fn compare_steps(decoder: &Decoder, lists: &Lists) -> (Result<(), u32>, [u32; COUNTS]) {
-    let params = &decoder.code.params;
-    let expected = reference::ride_steps(decoder, lists);
-    ride_gives(params, lists, Lent::marked(COUNTS), &expected);
-    assert_eq!(by_hand(params, lists), expected, "{params:?}, by hand");
-    (expected.answer, expected.counts.expect("the ride has started"))
-}
-
-/// The ride by the library's calls for rows.
-#[track_caller]
-fn by_hand(params: &Params, lists: &Lists) -> Ridden {
-    let n = params.n as usize;
-    let (mut ends, mut word, mut repaired) = (Vec::new(), vec![0; n], vec![0; n]);
-    let ended = |ends: &[End], number: u32| Ridden { answer: Err(number), counts: Some(counts(ends)) };
-    for (row, marks) in lists.steps(n) {
-        if marks.iter().any(|&mark| mark > 1) {
-            return ended(&ends, 8);
-        }
-        if let Err(number) = library_rows::write(params, row.gear, row.lamp, &mut word) {
-            return ended(&ends, number);
-        }
-        word.iter_mut().zip(marks).for_each(|(bit, mark)| *bit ^= mark);
-        ends.push(match library_rows::read(params, &word, &mut repaired) {
-            Ok((gear, lamp, _)) if (gear, lamp) == (row.gear, row.lamp) => End::Right,
-            Ok(_) => End::Wrong,
-            Err(10 | 11) => End::Held,
-            Err(number) => panic!("a word is refused by {number}"),
-        });
-    }
-    done(&ends)
-}
-
-/// Marks that turn the word of a row into the word of a message, but for these places.
-fn marks_towards(code: &Code, row: Row, carried: &[u8], places: &[usize]) -> Vec<u8> {
-    let (sent, received) = (code.encode(&message(row, code.k())), turned(&code.encode(carried), places));
-    sent.iter().zip(received).map(|(sent, received)| sent ^ received).collect()
-}
-
-/// Marks for a step: at most t, any number, towards a row, or towards any message.
-fn any_marks(random: &mut Random, code: &Code, row: Row) -> Vec<u8> {
-    let (n, k) = (code.length(), code.k());
-    let (few, any) = (random.below(code.params.t as usize + 1), random.below(n + 1));
-    let places = random.places(n, few);
-    match random.below(4) {
-        0 => ones_at(n, &places),
-        1 => ones_at(n, &random.places(n, any)),
-        2 => marks_towards(code, row, &message(random.pick(&rows::rows()), k), &places),
-        _ => marks_towards(code, row, &random.bits(k), &places),
-    }
-}
-
-fn push(lists: &mut Lists, row: Row, marks: &[u8]) {
-    lists.push(row.gear as u8, row.lamp as u8, marks);
-}
-
-/// A ride of so many steps without a fault, on a code that has room for rows.
-fn any_ride(random: &mut Random, code: &Code, steps: usize) -> Lists {
-    let mut lists = Lists::default();
-    for _ in 0..steps {
-        let row = random.pick(&rows::rows());
-        push(&mut lists, row, &any_marks(random, code, row));
-    }
-    lists
-}
-
-/// Steps of a code of any length, with room for rows or not.
-fn any_lists(random: &mut Random, n: usize, steps: usize) -> Lists {
-    let mut lists = Lists::default();
-    for _ in 0..steps {
-        push(&mut lists, random.pick(&rows::rows()), &random.bits(n));
-    }
-    lists
-}
-
-/// Puts a byte that is no bit among the marks of a step.
-fn spoil_mark(random: &mut Random, lists: &mut Lists, n: usize, step: usize) {
-    lists.turned[step * n + random.below(n)] = random.pick(&BAD_BYTES);
-}
-
-/// Makes the row of a step one that is none.
-fn spoil_row(random: &mut Random, lists: &mut Lists, step: usize) {
-    (lists.gears[step], lists.lamps[step]) = random.pick(&NO_ROWS);
-}
 
 /// A code of each shape.
 fn codes(random: &mut Random, shapes: Vec<Shape>) -> Vec<Code> {
@@ -204,8 +89,8 @@ fn rides_of_every_shape() {
     }
 }
 
-/// Rides on codes with room for rows or without. In some of them there are steps that end the ride, and in some a length
-/// that is one off. Every end of a step and of a ride is met.
+/// Rides on codes with room for rows or without. In some of them there are steps that end the ride, and in some a
+/// length that is one off. Every end of a step and of a ride is met.
 #[test]
 fn drawn_rides() {
     let mut random = Random::new(1202);
@@ -426,6 +311,8 @@ extern "C" {
         omega: u32,
         h: *const Elem,
         h_length: usize,
+        hidden: *const u8,
+        hidden_length: usize,
         gears: *const u8,
         gears_length: usize,
         lamps: *const u8,
@@ -441,7 +328,7 @@ extern "C" {
 #[track_caller]
 fn compare_pointers(params: &Params, lists: &Lists, counts_length: usize) -> Ridden {
     let expected = reference::ride(params, lists, counts_length);
-    let Params { m, n, t, omega, ref h } = *params;
+    let Params { m, n, t, omega, ref h, ref hidden } = *params;
     let Lists { gears, lamps, turned } = lists;
     let mut counts = Lent::marked(counts_length);
     let out = counts.slice_mut();
@@ -452,8 +339,10 @@ fn compare_pointers(params: &Params, lists: &Lists, counts_length: usize) -> Rid
             n,
             t,
             omega,
-            h.as_ptr(),
+            pointer(h),
             h.len(),
+            pointer(hidden),
+            hidden.len(),
             pointer(gears),
             gears.len(),
             pointer(lamps),
@@ -470,11 +359,13 @@ fn compare_pointers(params: &Params, lists: &Lists, counts_length: usize) -> Rid
     expected
 }
 
-/// A null pointer with length 0 is a list of no steps, or counts of a wrong length.
+/// A null pointer with length 0 is a list of no steps, or counts, a signature or marks of a wrong length.
 #[test]
 fn null_pointers() {
     let none = Lists::default();
     assert_eq!(compare_pointers(&code_t(), &none, COUNTS), done(&[]));
+    assert_eq!(compare_pointers(&Params { h: vec![], ..code_t() }, &none, COUNTS), refused(2));
+    assert_eq!(compare_pointers(&Params { hidden: vec![], ..code_t() }, &none, COUNTS), refused(2));
     assert_eq!(compare_pointers(&code_t(), &none, 0), refused(2));
     assert_eq!(compare_pointers(&code_a(), &none, COUNTS), refused(12));
     // Some of the lists have a step, and the others are null.
@@ -557,11 +448,12 @@ fn counts_of_another_ride() {
 #[derive(Clone, Copy, Debug, PartialEq)]
 enum Fault {
     Code(CodeFault),
+    Marks(MarkFault),
     /// More than a thousand steps.
     Long,
     /// Another number of lamps than of gears.
     Lamps,
-    /// Another number of marks than n for each step.
+    /// Another number of marks than one for each sent place and each step.
     Turned,
     /// A buffer for another number of counts than four.
     Counts,
@@ -571,22 +463,32 @@ enum Fault {
     NoRow,
 }
 
-/// Every fault by itself and every two of them together, or over large fields some: 1 to 7, then 12, then 8 and 11 in
-/// the order of the steps.
+/// Every fault by itself and every two of them together, or over large fields some: 1 to 7, then 20, then 2 for the
+/// marks of the steps, then 12, then 8 and 11 in the order of the steps.
 #[test]
 fn faults_together() {
     use Fault::*;
     let mut random = Random::new(1212);
     for shape @ (m, n, t) in draw::fewer_shapes() {
         let of_code = draw::code_faults(m, n).into_iter().map(Code);
-        let all: Vec<Fault> = of_code.chain([Long, Lamps, Turned, Counts, Mark, NoRow]).collect();
+        let of_marks = draw::MARK_FAULTS.map(Marks);
+        let all: Vec<Fault> = of_code.chain(of_marks).chain([Long, Lamps, Turned, Counts, Mark, NoRow]).collect();
         let sets = draw::all_or_some(&mut random, shape, &draw::one_or_two(&all));
         for faults in [vec![]].into_iter().chain(sets) {
             let has = |fault: Fault| faults.contains(&fault);
             let of_code = faults.iter().filter_map(|fault| if let Code(fault) = fault { Some(*fault) } else { None });
             let of_code: Vec<CodeFault> = of_code.collect();
-            let params = draw::damaged_code(&mut random, m, n, t, &of_code);
+            let of_marks = faults.iter().filter_map(|fault| if let Marks(fault) = fault { Some(*fault) } else { None });
+            let of_marks: Vec<MarkFault> = of_marks.collect();
+            let mut params = draw::damaged_code(&mut random, m, n, t, &of_code);
+            let k = if of_code.is_empty() { params.code().k() } else { 0 };
+            // The first block has check columns alone.
+            params.hidden.resize(n as usize, 0);
+            let roles = [vec![0; t as usize], vec![1; (n - t) as usize]].concat();
+            draw::spoil_marks(&mut random, &mut params.hidden, &roles, &of_marks);
             let (n, steps) = (n as usize, if has(Long) { LONGEST + 1 } else { 4 });
+            // With a fault in the marks there is a place less.
+            let n = if has(Marks(MarkFault::NoMark)) || has(Marks(MarkFault::HiddenCheck)) { n - 1 } else { n };
             let mut lists = any_lists(&mut random, n, steps);
             let (mark, row) = (random.below(4), random.below(4));
             if has(Mark) {
@@ -603,41 +505,20 @@ fn faults_together() {
             }
             let counts_length = if has(Counts) { other_length(&mut random, COUNTS) } else { COUNTS };
 
-            let length = [Long, Lamps, Turned, Counts].into_iter().any(has).then_some(2);
-            let numbers = of_code.iter().map(|fault| fault.number());
-            let narrow = || words::Code::new(&params).k() < rows::BITS;
+            let length = [Long, Lamps, Counts, Marks(MarkFault::Length)].into_iter().any(has).then_some(2);
+            let of_card = of_code.iter().map(|fault| fault.number()).chain(length).min();
+            let of_marks = of_marks.iter().map(|fault| fault.number()).min();
             let ending = match (has(Mark), has(NoRow)) {
+                _ if k < rows::BITS => Some(12),
                 (true, true) => Some(if mark <= row { 8 } else { 11 }),
                 (mark, row) => mark.then_some(8).or(row.then_some(11)),
             };
-            let before = numbers.chain(length).min();
-            let number = before.or_else(|| if narrow() { Some(12) } else { ending });
+            let number = of_card.or(of_marks).or(has(Turned).then_some(2)).or(ending);
             let ridden = compare(&params, &lists, counts_length);
             assert_eq!(ridden.answer.err(), number, "{faults:?}: {params:?}");
             assert_eq!(ridden.counts.is_some(), matches!(number, None | Some(8 | 11)), "{faults:?}: {params:?}");
         }
     }
-}
-
-/// The steps of a ride as the Rust crate takes them. Its lamps are the three.
-fn steps_of(lists: &Lists, n: usize) -> Vec<Step<'_>> {
-    let lamps = [Lamp::Dark, Lamp::Green, Lamp::Amber];
-    let row = |row: Row| zovunelith::Row { gear: row.gear, lamp: lamps[row.lamp as usize] };
-    lists.steps(n).into_iter().map(|(sent, turned)| Step { row: row(sent), turned }).collect()
-}
-
-/// The counts that a caller of the Rust crate had before.
-const EARLIER: Counts = Counts { steps: 161, right: 162, held: 163, wrong: 164 };
-
-/// Makes a ride of steps, with canaries around their room.
-#[track_caller]
-fn steps_give(params: &Params, steps: &[Step], room_length: usize, expected: &Ridden) {
-    let (mut room, mut counts) = (Lent::marked(room_length), EARLIER);
-    let answer = library::steps(params, steps, room.slice_mut(), &mut counts);
-    assert_eq!(answer, expected.answer, "{params:?}, {} steps in a room of {room_length}", steps.len());
-    assert!(room.guards_hold(), "a guard was written");
-    let written = expected.counts.map(|[steps, right, held, wrong]| Counts { steps, right, held, wrong });
-    assert_eq!(counts, written.unwrap_or(EARLIER));
 }
 
 /// The Rust crate lays steps out in a room and rides them, as the second implementation does. A room may be longer than
@@ -670,7 +551,8 @@ fn steps_in_a_room() {
     }
 }
 
-/// A room that is too short, marks of another length than n, a thousand and one steps: 2, after 1 and before all else.
+/// A thousand and one steps are 2, after 1 and before all else; a room that is too short, and marks of another length
+/// than the word's, are 2 once the code is accepted.
 #[test]
 fn steps_of_other_lengths() {
     let mut random = Random::new(1214);
@@ -679,8 +561,9 @@ fn steps_of_other_lengths() {
         let bad_width = Params { m: random.pick(&BAD_WIDTHS), ..params.clone() };
         let bad_rows = Params { t: 3, ..params.clone() };
         let is_refused = |steps: &[Step], room_length: usize| {
+            let number = if steps.len() > LONGEST { 2 } else { 7 };
             steps_give(&params, steps, room_length, &refused(2));
-            steps_give(&bad_rows, steps, room_length, &refused(2));
+            steps_give(&bad_rows, steps, room_length, &refused(number));
             steps_give(&bad_width, steps, room_length, &refused(1));
         };
         let n = n as usize;

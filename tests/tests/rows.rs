@@ -266,8 +266,8 @@ fn buffers_with_other_contents() {
     }
 }
 
-/// The faults of codes and lengths, narrow codes, bytes that are no bits and rows that are none, together: 1 to 7,
-/// then 12, then 8, then 10, then 11.
+/// The faults of codes and lengths, narrow codes, bytes that are no bits and rows that are none, together: 1 to 7, then
+/// 2 for the words, then 12, then 8, then 10, then 11.
 #[test]
 fn faults_together() {
     let mut random = Random::new(608);
@@ -283,7 +283,7 @@ fn faults_together() {
                 let wrong = draw::other_length(&mut random, right);
                 let of_code = |length: bool| {
                     let numbers = faults.iter().map(|fault| fault.number());
-                    numbers.chain(length.then_some(2)).min().or(narrow.then_some(12))
+                    numbers.min().or(length.then_some(2)).or(narrow.then_some(12))
                 };
 
                 // Writing: the last fault is a row that is none.

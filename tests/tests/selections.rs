@@ -1,13 +1,13 @@
 //! Every call on words over a selection of a code's blocks, against the second implementation over the chosen columns.
 
 use zovunelith_tests::bits::{bits, ones_at, turned, BAD_BYTES};
-use zovunelith_tests::calls::{Call, Input, CALLS};
+use zovunelith_tests::calls::{compare_all, compare_received, Call, Input};
 use zovunelith_tests::canary::Lent;
-use zovunelith_tests::draw::{self, CodeFault};
+use zovunelith_tests::draw;
 use zovunelith_tests::expect::{
     comes_back, encoding_gives, message_gives, reading_gives, repair_gives, roles_give, syndrome_gives, writing_gives,
-    Counted,
 };
+use zovunelith_tests::faults::{no_rows, too_great, Fault, Intact, OF_INPUT, OF_LISTS};
 use zovunelith_tests::library;
 use zovunelith_tests::random::Random;
 use zovunelith_tests::reference::columns::{block_count, Selection, Setting};
@@ -17,65 +17,17 @@ use zovunelith_tests::reference::rows::{self, Row};
 use zovunelith_tests::reference::words;
 use zovunelith_tests::Elem;
 
-fn selection(params: Params, blocks: &[u32], shifts: &[u32]) -> Selection {
-    Selection { params, blocks: blocks.to_vec(), shifts: shifts.to_vec() }
-}
-
-/// Compares the repair of a word, and reading a row from it, with the second implementation.
-#[track_caller]
-fn compare_received(setting: &impl Setting, decoder: &Decoder, received: &[u8]) -> Counted {
-    let expected = decoder.repair(received).ok_or(10);
-    repair_gives(setting, received, Lent::marked(received.len()), &expected);
-    reading_gives(setting, received, Lent::marked(received.len()), &rows::read_word(decoder, received));
-    expected
-}
-
-/// Compares every call with the second implementation, on random messages and words. Words are received with few, with
-/// t, with one more and with any number of places turned.
-#[track_caller]
-fn compare_all(random: &mut Random, setting: &impl Setting, decoder: &Decoder) {
-    let code = &decoder.code;
-    let (length, k, t) = (code.length(), code.k(), code.params.t as usize);
-    roles_give(setting, length, &Ok((code.roles.clone(), k as u32)));
-    let message = random.bits(k);
-    let sent = code.encode(&message);
-    encoding_gives(setting, &message, length, &Ok(sent.clone()));
-    for word in [&sent, &random.bits(length)] {
-        syndrome_gives(setting, word, t, &Ok(code.syndrome(word)));
-        message_gives(setting, word, k, &Ok(code.message(word)));
-    }
-
-    let few = random.below(t + 1);
-    for weight in [0, few, t] {
-        comes_back(setting, &sent, &random.places(length, weight));
-    }
-    for weight in [few, t, (t + 1).min(length), random.below(length + 1)] {
-        let received = turned(&sent, &random.places(length, weight));
-        compare_received(setting, decoder, &received).ok();
-    }
-
-    let row = random.pick(&rows::rows());
-    if k < rows::BITS {
-        writing_gives(setting, row.gear, row.lamp, length, &Err(12));
-        return;
-    }
-    let sent = code.encode(&rows::message(row, k));
-    writing_gives(setting, row.gear, row.lamp, length, &Ok(sent.clone()));
-    let received = turned(&sent, &random.places(length, few));
-    reading_gives(setting, &received, Lent::marked(length), &Ok((row, sent, few as u32)));
-}
-
 #[test]
 fn cases() {
     // The columns 4, 7 and 3 of code A, the last being the sum of the others.
-    let three = selection(code_a(), &[3, 0, 2], &[0, 0, 0]);
+    let three = Selection::new(&code_a(), &[3, 0, 2], &[0, 0, 0]);
     roles_give(&three, 3, &Ok((vec![0, 0, 1], 1)));
     encoding_gives(&three, &[1], 3, &Ok(vec![1, 1, 1]));
     message_gives(&three, &[1, 0, 1], 1, &Ok(vec![1]));
     syndrome_gives(&three, &[1, 1, 0], 1, &Ok(vec![3]));
     comes_back(&three, &[1, 1, 1], &[1]);
     // Code T's columns 10 and 11, then 1 and 0.
-    let two = selection(code_t(), &[5, 0], &[0, 1]);
+    let two = Selection::new(&code_t(), &[5, 0], &[0, 1]);
     syndrome_gives(&two, &[0, 0, 1, 0], 2, &Ok(vec![8, 12]));
     syndrome_gives(&two, &[1, 0, 0, 1], 2, &Ok(vec![17 ^ 12, 4 ^ 8]));
     roles_give(&two, 4, &Ok((vec![0; 4], 0)));
@@ -85,7 +37,7 @@ fn cases() {
 /// Seven blocks of code T, as in the documentation of the Rust crate, and all eight, in another order and with shifts.
 #[test]
 fn seven_and_eight_blocks() {
-    let seven = selection(code_t(), &[6, 0, 3, 5, 1, 7, 2], &[1, 0, 0, 1, 0, 1, 0]);
+    let seven = Selection::new(&code_t(), &[6, 0, 3, 5, 1, 7, 2], &[1, 0, 0, 1, 0, 1, 0]);
     let sent = vec![0, 1, 0, 0, 1, 1, 1, 0, 1, 0, 1, 1, 1, 1];
     assert_eq!(seven.code().encode(&[1, 0, 1, 1]), sent);
     roles_give(&seven, 14, &Ok((ones_at(14, &[8, 9, 12, 13]), 4)));
@@ -97,7 +49,7 @@ fn seven_and_eight_blocks() {
     }
     // Rows need all eight.
     writing_gives(&seven, 1, 0, 14, &Err(12));
-    let eight = selection(code_t(), &[6, 0, 3, 5, 1, 7, 2, 4], &[1, 0, 0, 1, 0, 1, 0, 1]);
+    let eight = Selection::new(&code_t(), &[6, 0, 3, 5, 1, 7, 2, 4], &[1, 0, 0, 1, 0, 1, 0, 1]);
     let first_dark = ones_at(16, &[1, 4, 5, 7, 8]);
     writing_gives(&eight, 1, 0, 16, &Ok(first_dark.clone()));
     let read = (Row { gear: 1, lamp: 0 }, first_dark.clone(), 2);
@@ -171,7 +123,7 @@ fn single_blocks() {
         let (params, length) = (draw::params(&mut random, m, n, t), t as usize);
         for block in draw::every_place(&mut random, shape, block_count(&params)) {
             for shift in draw::every_place(&mut random, shape, length) {
-                let single = selection(params.clone(), &[block as u32], &[shift as u32]);
+                let single = Selection::new(&params, &[block as u32], &[shift as u32]);
                 roles_give(&single, length, &Ok((vec![0; length], 0)));
                 encoding_gives(&single, &[], length, &Ok(vec![0; length]));
                 message_gives(&single, &random.bits(length), 0, &Ok(vec![]));
@@ -193,11 +145,11 @@ fn syndromes_of_single_places() {
         let params = draw::params(&mut random, m, n, t);
         for count in [1 + random.below(block_count(&params)), block_count(&params)] {
             let selection = draw::selection(&mut random, &params, count);
-            for place in draw::every_place(&mut random, shape, selection.length()) {
+            for place in draw::every_place(&mut random, shape, selection.places()) {
                 let (b, r) = (place / t as usize, place as u32 % t);
                 let column = selection.blocks[b] * t + (r ^ selection.shifts[b]);
                 let entries: Vec<Elem> = (0..t).map(|i| params.h[(i ^ column) as usize]).collect();
-                let word = ones_at(selection.length(), &[place]);
+                let word = ones_at(selection.places(), &[place]);
                 syndrome_gives(&selection, &word, t as usize, &Ok(entries));
             }
         }
@@ -214,10 +166,10 @@ fn words_within_the_whole_code() {
         for _ in 0..draw::rounds(shape, 4) {
             let count = 1 + random.below(block_count(&params));
             let selection = draw::selection(&mut random, &params, count);
-            let mut sent = vec![0; selection.length()];
+            let mut sent = vec![0; selection.places()];
             let k = library::words::roles(&selection, &mut sent).expect("accepted") as usize;
             library::words::encode(&selection, &random.bits(k), &mut sent).expect("a message");
-            for (word, is_code_word) in [(sent, true), (random.bits(selection.length()), false)] {
+            for (word, is_code_word) in [(sent, true), (random.bits(selection.places()), false)] {
                 let mut syndrome = vec![0; t as usize];
                 library::words::syndrome(&selection, &word, &mut syndrome).expect("a word");
                 assert!(!is_code_word || syndrome.iter().all(|&sum| sum == 0), "{selection:?}");
@@ -231,16 +183,15 @@ fn words_within_the_whole_code() {
 
 /// Every selection there is of a code: its blocks in every order and number, with every shift.
 fn all_selections(params: &Params) -> Vec<Selection> {
-    let mut all = vec![selection(params.clone(), &[], &[])];
+    let mut all = vec![Selection::new(params, &[], &[])];
     let mut next = 0;
     while next < all.len() {
         let shorter = all[next].clone();
         let unused = (0..params.n / params.t).filter(|block| !shorter.blocks.contains(block));
         for (block, shift) in unused.flat_map(|block| (0..params.t).map(move |shift| (block, shift))) {
-            let mut longer = shorter.clone();
-            longer.blocks.push(block);
-            longer.shifts.push(shift);
-            all.push(longer);
+            let [blocks, shifts] =
+                [(&shorter.blocks, block), (&shorter.shifts, shift)].map(|(list, last)| [&list[..], &[last]].concat());
+            all.push(Selection::new(params, &blocks, &shifts));
         }
         next += 1;
     }
@@ -268,8 +219,8 @@ fn all_selections_of_small_codes() {
         for selection in selections {
             let decoder = Decoder::new(selection.code());
             compare_all(&mut random, &selection, &decoder);
-            for number in 0..1 << selection.length() {
-                compare_received(&selection, &decoder, &bits(number, selection.length())).ok();
+            for number in 0..1 << selection.places() {
+                compare_received(&selection, &decoder, &bits(number, selection.places())).ok();
             }
         }
     }
@@ -287,9 +238,9 @@ fn turned_places_of_every_number() {
         for count in draw::all_or_some(&mut random, shape, &counts) {
             let selection = draw::selection(&mut random, &params, count);
             let decoder = Decoder::new(selection.code());
-            for weight in 0..=selection.length() {
+            for weight in 0..=selection.places() {
                 let sent = decoder.code.encode(&random.bits(decoder.code.k()));
-                let received = turned(&sent, &random.places(selection.length(), weight));
+                let received = turned(&sent, &random.places(selection.places(), weight));
                 match compare_received(&selection, &decoder, &received) {
                     Ok(_) => repaired += 1,
                     Err(_) => too_far += 1,
@@ -312,7 +263,7 @@ fn rows_over_wide_selections() {
         for count in [count, (count + block_count(&params)) / 2] {
             let selection = draw::selection(&mut random, &params, count);
             let decoder = Decoder::new(selection.code());
-            let (code, length) = (&decoder.code, selection.length());
+            let (code, length) = (&decoder.code, selection.places());
             if code.k() < rows::BITS {
                 continue;
             }
@@ -343,13 +294,6 @@ fn rows_over_wide_selections() {
 fn enough_blocks(params: &Params) -> usize {
     let places = params.m * params.t + rows::BITS as u32;
     block_count(params).min(places.div_ceil(params.t) as usize)
-}
-
-/// Messages of k bits that are no rows: green in first gear, lamp 3, and a further bit.
-fn no_rows(k: usize) -> Vec<Vec<u8>> {
-    let further = (rows::BITS < k).then(|| ones_at(k, &[k - 1]));
-    let pairs = [Row { gear: 1, lamp: 1 }, Row { gear: 0, lamp: 3 }];
-    pairs.into_iter().map(|row| rows::message(row, k)).chain(further).collect()
 }
 
 /// What the calls give does not depend on the offset.
@@ -384,7 +328,7 @@ fn buffers_with_other_contents() {
         let params = draw::params(&mut random, m, n, t);
         let selection = draw::selection(&mut random, &params, enough_blocks(&params));
         let decoder = Decoder::new(selection.code());
-        let (code, length) = (&decoder.code, selection.length());
+        let (code, length) = (&decoder.code, selection.places());
         let message = random.bits(code.k());
         let sent = code.encode(&message);
         let received = turned(&sent, &random.places(length, t as usize));
@@ -420,12 +364,6 @@ fn selections_with_input(random: &mut Random) -> Vec<(Selection, Input)> {
         }
     }
     drawn
-}
-
-/// Numbers of `bound` or more, among them ones that a cut to fewer bits would take to `good`.
-fn too_great(bound: u32, good: u32) -> Vec<u32> {
-    let all = [bound, bound + 1, 2 * bound, 256 + good, 512 + good, 65536 + good, (1 << 31) + good, u32::MAX];
-    all.into_iter().filter(|&number| number >= bound).collect()
 }
 
 /// A block of n/t or more at any place is 14.
@@ -490,7 +428,8 @@ fn lists_of_other_lengths() {
             let (mut damaged, mut input) = (selection.clone(), input.clone());
             damaged.blocks.resize(length, 0);
             damaged.shifts.resize(length, 0);
-            input.resize(damaged.length());
+            damaged.hidden.resize(damaged.places(), 0);
+            input.resize(damaged.places());
             input.is_refused_by_all(&damaged, 2);
         }
         for length in [0, count - 1, count + 1, most, 2 * count, 256 + count, 65536 + count] {
@@ -508,7 +447,7 @@ fn lists_of_other_lengths() {
 fn words_of_other_lengths() {
     let mut random = Random::new(916);
     for (selection, input) in selections_with_input(&mut random) {
-        let (right, t, n) = (selection.length(), selection.params.t as usize, selection.params.n as usize);
+        let (right, t, n) = (selection.places(), selection.params.t as usize, selection.params.n as usize);
         let lengths = [0, right - t, right - 1, right + 1, right + t, 2 * right, n, 256 + right, 65536 + right];
         for length in lengths.into_iter().filter(|&length| length != right) {
             let mut both = input.clone();
@@ -540,7 +479,7 @@ fn messages_of_other_lengths() {
     let mut random = Random::new(917);
     for (selection, input) in selections_with_input(&mut random) {
         let (right, whole) = (input.message.len(), words::Code::new(&selection.params).k());
-        let lengths = draw::other_lengths(right).into_iter().chain([whole, selection.length()]);
+        let lengths = draw::other_lengths(right).into_iter().chain([whole, selection.places()]);
         for length in lengths.filter(|&length| length != right) {
             let input = Input { message: random.bits(length), ..input.clone() };
             for call in [Call::Encode, Call::Message] {
@@ -573,187 +512,27 @@ fn bytes_that_are_no_bits() {
     }
 }
 
-/// A fault of a call on a selection.
-#[derive(Clone, Copy, Debug, PartialEq)]
-enum Fault {
-    Code(CodeFault),
-    SyndromeLength,
-    NoBlocks,
-    TooManyBlocks,
-    ShiftsLength,
-    WordLength,
-    RepairedLength,
-    BeyondTheLast,
-    NamedTwice,
-    Shift,
-    MessageLength,
-    Narrow,
-    NoBit,
-    TooFar,
-    NoRow,
-}
-
-impl Fault {
-    /// When it is looked for, and its number: those of the code by their numbers, then the others one after the other.
-    /// Of several faults the one with the smallest pair is given.
-    fn rank(self) -> (u32, u32) {
-        use Fault::*;
-        match self {
-            Code(fault) => (0, fault.number()),
-            SyndromeLength => (0, 2),
-            NoBlocks | TooManyBlocks | ShiftsLength | WordLength | RepairedLength => (1, 2),
-            BeyondTheLast | NamedTwice => (2, 14),
-            Shift => (3, 15),
-            MessageLength => (4, 2),
-            Narrow => (5, 12),
-            NoBit => (6, 8),
-            TooFar => (7, 10),
-            NoRow => (8, 11),
-        }
-    }
-
-    /// Whether a call can have it.
-    fn concerns(self, call: Call) -> bool {
-        use Call::*;
-        match self {
-            Fault::SyndromeLength => call == Syndrome,
-            Fault::RepairedLength | Fault::TooFar => [Repair, ReadRow].contains(&call),
-            Fault::MessageLength => [Encode, Message].contains(&call),
-            Fault::Narrow | Fault::NoRow => [WriteRow, ReadRow].contains(&call),
-            Fault::NoBit => ![Roles, WriteRow].contains(&call),
-            _ => true,
-        }
-    }
-}
-
-/// A selection to be damaged.
-struct Intact {
-    selection: Selection,
-    decoder: Decoder,
-    /// A word that is too far from every code word, if one was met.
-    too_far: Option<Vec<u8>>,
-}
-
-impl Intact {
-    fn new(random: &mut Random, params: &Params, count: usize) -> Intact {
-        let selection = draw::selection(random, params, count);
-        let decoder = Decoder::new(selection.code());
-        let mut words = (0..100).map(|_| random.bits(selection.length()));
-        let too_far = words.find(|word| decoder.repair(word).is_none());
-        Intact { selection, decoder, too_far }
-    }
-
-    /// The selection and input for every call, with these faults if it can have them. The earlier a fault is looked
-    /// for, the later it is made: it can then cover another, which is not the one to be given, but is never covered
-    /// itself.
-    fn damaged(&self, random: &mut Random, faults: &[Fault]) -> Option<(Selection, Input)> {
-        let has = |fault: Fault| faults.contains(&fault);
-        let (mut selection, mut input) = (self.selection.clone(), Input::new(random, &self.decoder));
-        let (count, most, k) = (selection.blocks.len(), block_count(&selection.params), input.message.len());
-        let place = random.below(count);
-        if has(Fault::NoRow) {
-            input.row = random.pick(&[Row { gear: 1, lamp: 1 }, Row { gear: 8, lamp: 0 }, Row { gear: 0, lamp: 3 }]);
-            if k >= rows::BITS {
-                input.word = self.decoder.code.encode(&no_rows(k)[random.below(2)]);
-            }
-        }
-        if has(Fault::TooFar) {
-            input.word = self.too_far.clone()?;
-        }
-        if has(Fault::MessageLength) {
-            input.message = random.bits(k + 1);
-        }
-        if has(Fault::NoBit) {
-            for list in [&mut input.word, &mut input.message] {
-                let place = random.below(list.len().max(1));
-                list.iter_mut().skip(place).take(1).for_each(|byte| *byte = random.pick(&BAD_BYTES));
-            }
-        }
-        if has(Fault::Shift) {
-            selection.shifts[place] = random.pick(&too_great(selection.params.t, selection.shifts[place]));
-        }
-        if has(Fault::NamedTwice) {
-            selection.blocks[place] = selection.blocks[(place + 1) % count];
-        }
-        if has(Fault::BeyondTheLast) {
-            selection.blocks[place] = random.pick(&too_great(most as u32, selection.blocks[place]));
-        }
-        if has(Fault::TooManyBlocks) {
-            selection.blocks.resize(most + 1, 0);
-            selection.shifts.resize(most + 1, 0);
-        }
-        if has(Fault::NoBlocks) {
-            selection.blocks.clear();
-            selection.shifts.clear();
-        }
-        if has(Fault::ShiftsLength) {
-            let right = selection.shifts.len();
-            selection.shifts.resize(draw::other_length(random, right), 0);
-        }
-        let right = selection.length();
-        let wrong = draw::other_length(random, right);
-        input.resize(right);
-        if has(Fault::WordLength) {
-            input.word.resize(wrong, 0);
-        }
-        if has(Fault::RepairedLength) {
-            input.repaired_length = wrong;
-        }
-        let of_code = |fault: &Fault| if let Fault::Code(fault) = fault { Some(*fault) } else { None };
-        let of_code: Vec<CodeFault> = faults.iter().filter_map(of_code).collect();
-        if !of_code.is_empty() {
-            let Params { m, n, t, .. } = selection.params;
-            selection.params = draw::damaged_code(random, m, n, t, &of_code);
-        }
-        // As long as t, damaged or not, where so much can be lent.
-        let rows = selection.params.t.min(4096) as usize;
-        input.syndrome_length = if has(Fault::SyndromeLength) { rows + 1 } else { rows };
-        Some((selection, input))
-    }
-}
-
-/// The number to be given for faults that were made, and for those that a call has without: too few message columns for
-/// a row, and a syndrome that can't be as long as a damaged t. An empty message has no byte that could be no bit.
-fn first_number(call: Call, faults: &[Fault], k: usize, selection: &Selection, input: &Input) -> Option<u32> {
-    let narrow = (k < rows::BITS).then_some(Fault::Narrow);
-    let syndrome = (input.syndrome_length as u64 != u64::from(selection.params.t)).then_some(Fault::SyndromeLength);
-    let possible = |fault: &Fault| *fault != Fault::NoBit || call != Call::Encode || !input.message.is_empty();
-    let faults = faults.iter().copied().filter(possible).chain(narrow).chain(syndrome);
-    faults.filter(|fault| fault.concerns(call)).map(Fault::rank).min().map(|rank| rank.1)
-}
-
 /// Every fault and every two of them, or over large fields some, in every call that can have them: the one that is
 /// looked for first is given.
 #[test]
 fn faults_together() {
-    use Fault::*;
     let mut random = Random::new(919);
     let mut refused = 0;
     for shape @ (m, n, t) in draw::fewer_shapes() {
         let params = draw::params(&mut random, m, n, t);
         let least = enough_blocks(&params);
         let count = least + random.below(block_count(&params) - least + 1);
-        let wide = Intact::new(&mut random, &params, count);
         // Two blocks have no message columns, since code words differ in more than 2t places.
-        let narrow = Intact::new(&mut random, &params, 2);
-        let mut faults: Vec<Fault> = draw::code_faults(m, n).into_iter().map(Code).collect();
-        faults.extend([SyndromeLength, NoBlocks, TooManyBlocks, ShiftsLength, WordLength, RepairedLength]);
-        faults.extend([BeyondTheLast, NamedTwice, Shift, MessageLength, Narrow, NoBit, TooFar, NoRow]);
+        let [wide, narrow] = [count, 2].map(|count| {
+            let selection = draw::selection(&mut random, &params, count);
+            Intact::new(&mut random, selection)
+        });
+        let of_code = draw::code_faults(m, n).into_iter().map(Fault::Code);
+        let faults: Vec<Fault> = of_code.chain(OF_LISTS).chain(OF_INPUT).collect();
         let sets = draw::all_or_some(&mut random, shape, &draw::one_or_two(&faults));
         for faults in [vec![]].into_iter().chain(sets) {
-            let intact = if faults.contains(&Narrow) { &narrow } else { &wide };
-            let Some((selection, input)) = intact.damaged(&mut random, &faults) else {
-                continue;
-            };
-            for call in CALLS.into_iter().filter(|&call| faults.iter().all(|fault| fault.concerns(call))) {
-                // Judged by the order of the faults as well as by the second implementation.
-                let number = first_number(call, &faults, intact.decoder.code.k(), &selection, &input);
-                assert_eq!(input.number(call, &selection), number, "{call:?}, {faults:?}: {selection:?}, {input:?}");
-                if let Some(number) = number {
-                    input.is_refused(call, &selection, number);
-                    refused += 1;
-                }
-            }
+            let intact = if faults.contains(&Fault::Narrow) { &narrow } else { &wide };
+            refused += intact.compare(&mut random, &faults);
         }
     }
     assert!(refused > 50_000, "only {refused} calls were refused");

@@ -113,7 +113,7 @@ fn every_length() {
     let mut random = Random::new(704);
     for n in 0..=512_u32 {
         let h: Vec<Elem> = (0..n).map(|_| draw::nonzero(&mut random, 5)).collect();
-        let params = Params { m: 5, n, t: 1, omega: 0, h };
+        let params = Params::new(5, 1, 0, h);
         let answer = compare(&reference::sheet(&params));
         if !LENGTHS.contains(&n) {
             assert_eq!(answer, Err(2), "n {n}");
@@ -137,7 +137,7 @@ fn lengths_above_the_longest() {
     let mut random = Random::new(707);
     for n in (513..=530).chain([640, 768, 1000, 1023, 1024, 1025, 4096, 9999, 10000, 65534, 65535]) {
         let h: Vec<Elem> = (0..n).map(|_| draw::nonzero(&mut random, 16)).collect();
-        let params = Params { m: 16, n, t: 1, omega: 0, h };
+        let params = Params::new(16, 1, 0, h);
         for length in [0, 1, 4, 512, 513, n as usize - 1, n as usize] {
             let mut params = params.clone();
             params.h.truncate(length);
@@ -173,7 +173,7 @@ fn every_number_of_line_one() {
 /// Every number as an entry, in a sheet whose code is refused for it or is not.
 #[test]
 fn every_number_of_line_two() {
-    let params = Params { m: 16, n: 2, t: 1, omega: 0, h: vec![1, 0] };
+    let params = Params::new(16, 1, 0, vec![1, 0]);
     for value in 0..=Elem::MAX {
         let number = match value {
             0 => Some(4),
@@ -345,7 +345,7 @@ fn random_numbers() {
         let omega = random.below(65536) as u32 >> random.below(16);
         let bits = random.below(17);
         let h = (0..n).map(|_| (random.below(65536) >> bits) as Elem).collect();
-        let answer = compare(&reference::sheet(&Params { m, n, t, omega, h }));
+        let answer = compare(&reference::sheet(&Params::new(m, t, omega, h)));
         answers[answer.map_or_else(|number| number as usize, |_| 0)] += 1;
     }
     assert!(answers[..8].iter().all(|&count| count > 10) && answers[13] == 0, "{answers:?}");

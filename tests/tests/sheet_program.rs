@@ -63,7 +63,7 @@ fn sheets_of_every_shape() {
 /// The longest sheets, longer texts, and much longer ones.
 #[test]
 fn long_texts() {
-    let of_length = |n: u32| Params { m: 16, n, t: 1, omega: 65535, h: vec![65535; n as usize] };
+    let of_length = |n: u32| Params::new(16, 1, 65535, vec![65535; n as usize]);
     assert_eq!(compare(&reference::sheet(&of_length(511))), b"     2\n");
     let longest = reference::sheet(&of_length(512));
     assert_eq!(longest.len(), (4 * 6 + 1) + (512 * 6 + 1));

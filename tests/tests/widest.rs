@@ -47,8 +47,7 @@ const PLACES: [usize; 8] = [0, 1, 127, 128, 255, 256, 510, 511];
 fn compare_card(code: &Params) -> (Vec<Elem>, Vec<Elem>) {
     let expected = params::check(code, code.h.len(), code.h.len()).expect("accepted");
     let (mut roots, mut support) = (Lent::marked(code.h.len()), Lent::marked(code.h.len()));
-    let numbers = (code.m, code.n, code.t, code.omega);
-    assert_eq!(library::params::check(numbers, &code.h, roots.slice_mut(), support.slice_mut()), Ok(()), "{code:?}");
+    assert_eq!(library::params::check(code, roots.slice_mut(), support.slice_mut()), Ok(()), "{code:?}");
     roots.assert_holds(Some(&expected.0));
     support.assert_holds(Some(&expected.1));
     let listing = sheet::listing(&sheet::sheet(code)).expect("accepted");
@@ -128,14 +127,12 @@ fn codes_that_differ_in_the_upper_byte() {
     for bit in 8..16 {
         let one = draw::params(&mut random, 16, 512, 1);
         let other = Params { omega: one.omega ^ 1 << bit, ..one.clone() };
-        let numbers = |code: &Params| (code.m, code.n, code.t, code.omega);
-        assert_eq!(library::params::same(numbers(&one), &one.h, numbers(&other), &other.h), Ok(false));
-        assert_eq!(library::params::same(numbers(&other), &other.h, numbers(&other), &other.h), Ok(true));
+        assert_eq!(library::params::same(&one, &other), Ok(false));
+        assert_eq!(library::params::same(&other, &other), Ok(true));
         // At n = 2 any two entries will do that differ and are not zero.
-        let first: [Elem; 2] = [1, 2];
-        let second: [Elem; 2] = [1, 2 ^ 1 << bit];
-        assert_eq!(library::params::same((16, 2, 1, 0), &first, (16, 2, 1, 0), &second), Ok(false));
-        assert_eq!(library::params::check((16, 2, 1, 0), &[2, 2 ^ 1 << bit], &mut [0; 2], &mut [0; 2]), Ok(()));
+        let two = |first: Elem, second: Elem| Params::new(16, 1, 0, vec![first, second]);
+        assert_eq!(library::params::same(&two(1, 2), &two(1, 2 ^ 1 << bit)), Ok(false));
+        assert_eq!(library::params::check(&two(2, 2 ^ 1 << bit), &mut [0; 2], &mut [0; 2]), Ok(()));
     }
 }
 
@@ -218,7 +215,7 @@ fn the_longest_words() {
 /// Compares every call on words over a selection of the longest code.
 #[track_caller]
 fn compare_selection(random: &mut Random, selection: &Selection) {
-    let (code, length) = (selection.code(), selection.length());
+    let (code, length) = (selection.code(), selection.places());
     let t = code.params.t as usize;
     roles_give(selection, length, &Ok((code.roles.clone(), code.k() as u32)));
     let message = random.bits(code.k());
@@ -243,7 +240,7 @@ fn the_last_blocks() {
             let blocks = [last, 0, last / 2, last / 2 + 1, last - 1];
             for blocks in [blocks.to_vec(), blocks.iter().rev().copied().collect(), (0..=last).rev().collect()] {
                 let shifts = vec![shift; blocks.len()];
-                let selection = Selection { params: params.clone(), blocks, shifts };
+                let selection = Selection::new(&params, &blocks, &shifts);
                 let columns = selection.columns();
                 assert!(columns.contains(&511) && columns.contains(&0));
                 compare_selection(&mut random, &selection);
@@ -251,8 +248,8 @@ fn the_last_blocks() {
         }
         // One more block is none; cut to fewer bits it would be the first.
         for beyond in [last + 1, last + 2, 512, 65536, 65536 + last] {
-            let selection = Selection { params: params.clone(), blocks: vec![beyond], shifts: vec![0] };
-            assert_eq!(selection.judge(&[t as usize], None).err(), Some(14));
+            let selection = Selection::new(&params, &[beyond], &[0]);
+            assert_eq!(selection.judge(None).err(), Some(14));
             roles_give(&selection, t as usize, &Err(14));
         }
     }
@@ -263,11 +260,11 @@ fn the_last_blocks() {
 fn the_greatest_shift() {
     let mut random = Random::new(1307);
     let params = draw::params(&mut random, 16, 512, 256);
-    for (blocks, shifts) in [(vec![1], vec![255]), (vec![1, 0], vec![255, 254]), (vec![0, 1], vec![128, 255])] {
-        compare_selection(&mut random, &Selection { params: params.clone(), blocks, shifts });
+    for (blocks, shifts) in [(&[1][..], &[255][..]), (&[1, 0], &[255, 254]), (&[0, 1], &[128, 255])] {
+        compare_selection(&mut random, &Selection::new(&params, blocks, shifts));
     }
     for shift in [256, 257, 511, 512, 65536 + 255] {
-        let selection = Selection { params: params.clone(), blocks: vec![1], shifts: vec![shift] };
+        let selection = Selection::new(&params, &[1], &[shift]);
         roles_give(&selection, 256, &Err(15));
     }
 }

@@ -29,7 +29,7 @@ fn cases() {
     encoding_gives(&code_t(), &[1, 0, 0, 0, 0, 0], 16, &Ok(ones_at(16, &[1, 2, 5, 6, 7, 8])));
     syndrome_gives(&code_t(), &ones_at(16, &[1, 2, 5, 6, 7, 8]), 2, &Ok(vec![0, 0]));
     // k of 0 encodes the empty message.
-    let params = Params { m: 2, n: 2, t: 1, omega: 0, h: vec![1, 2] };
+    let params = Params::new(2, 1, 0, vec![1, 2]);
     roles_give(&params, 2, &Ok((vec![0, 0], 0)));
     encoding_gives(&params, &[], 2, &Ok(vec![0, 0]));
     message_gives(&params, &[1, 1], 0, &Ok(vec![]));
@@ -206,11 +206,11 @@ fn bytes_that_are_no_bits() {
     }
 }
 
-/// The number to be given for faults of the code, a wrong length of a buffer that n or t names, and what is looked
-/// for after the code: a wrong length of the message, then bytes that are no bits.
-fn first_number(faults: &[CodeFault], length: bool, message_length: bool, byte: bool) -> Option<u32> {
+/// The number to be given for faults of the code, a wrong length of the roles or the syndrome, and what is looked for
+/// after the code: a wrong length of the word or the message, then bytes that are no bits.
+fn first_number(faults: &[CodeFault], length: bool, later_length: bool, byte: bool) -> Option<u32> {
     let params = faults.iter().map(|fault| fault.number()).chain(length.then_some(2)).min();
-    params.or(message_length.then_some(2)).or(byte.then_some(8))
+    params.or(later_length.then_some(2)).or(byte.then_some(8))
 }
 
 /// The faults of codes, lengths and bytes, every two of them and more together.
@@ -246,20 +246,21 @@ fn faults_together() {
                 let word = damage(random.bits(lent), &mut random);
                 let rows = if params.t <= 4096 { params.t as usize } else { t as usize };
                 let syndrome_length = if other_length { rows + 1 } else { rows };
-                let wrong_length = length || syndrome_length as u64 != u64::from(params.t);
+                let wrong_length = syndrome_length as u64 != u64::from(params.t);
                 let expected = reference::syndrome(&params, &word, syndrome_length);
-                expect(expected.as_ref().err().copied(), first_number(&faults, wrong_length, false, byte));
+                expect(expected.as_ref().err().copied(), first_number(&faults, wrong_length, length, byte));
                 syndrome_gives(&params, &word, syndrome_length, &expected);
 
                 let message_length = if other_length { k + 1 } else { k };
+                let later_length = length || other_length;
                 let expected = reference::message(&params, &word, message_length);
-                expect(expected.as_ref().err().copied(), first_number(&faults, length, other_length, byte));
+                expect(expected.as_ref().err().copied(), first_number(&faults, false, later_length, byte));
                 message_gives(&params, &word, message_length, &expected);
 
                 let message = damage(random.bits(message_length), &mut random);
                 let no_bit = byte && message_length > 0;
                 let expected = reference::encode(&params, &message, lent);
-                expect(expected.as_ref().err().copied(), first_number(&faults, length, other_length, no_bit));
+                expect(expected.as_ref().err().copied(), first_number(&faults, false, later_length, no_bit));
                 encoding_gives(&params, &message, lent, &expected);
             }
         }

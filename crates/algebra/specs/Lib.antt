@@ -26,6 +26,8 @@ pub mod Lists
 pub mod ListLaws
 pub mod Places
 pub mod PlaceLaws
+pub mod Subsequence
+pub mod Choosing
 pub mod Echelon
 pub mod Elimination
 pub mod Locator

@@ -2,7 +2,7 @@
 use field::Elem;
 use params::Parameters;
 ghost use mathlib.Core.Path.{_≡_};
-ghost use Rattle.columns.specs.Setting.{Setting.wholeCode};
+ghost use Rattle.shortened.specs.Setting.{shortCode};
 ghost use Rattle.simulation.specs.Steps.{stepsOf};
 ghost use Rattle.simulation.specs.Answers.{rideAnswer, rideAfter};
 ghost use Rattle.wire.specs.Wire.{code, outcomeCode};
@@ -14,6 +14,7 @@ pub extern "C" fn zov_ride(
     t: u32,
     omega: u32,
     h: &[Elem],
+    hidden: &[u8],
     gears: &[u8],
     lamps: &[u8],
     turned: &[u8],
@@ -22,16 +23,19 @@ pub extern "C" fn zov_ride(
     ensures { λ r.
         ⌜ r
         ≡ outcomeCode
-        (rideAnswer (code m n t omega) (now (h .entry)) wholeCode (stepsOf (now (gears .entry)) (now (lamps .entry)) (now (turned .entry)))
+        (rideAnswer (code m n t omega) (now (h .entry)) (shortCode (now (hidden .entry))) (stepsOf (now (gears .entry)) (now (lamps .entry))
+        (now (turned .entry)))
         (now (counts .entry))) ⌝ }
     ensures { λ _.
         ⌜ now (counts .exit)
-        ≡ rideAfter (code m n t omega) (now (h .entry)) wholeCode (stepsOf (now (gears .entry)) (now (lamps .entry)) (now (turned .entry)))
+        ≡ rideAfter (code m n t omega) (now (h .entry)) (shortCode (now (hidden .entry))) (stepsOf (now (gears .entry)) (now (lamps .entry))
+        (now (turned .entry)))
         (now (counts .entry)) ⌝ }
 {
     wire::outcome_code(simulation::ride(
         Parameters { m, n, t, omega },
         h,
+        hidden,
         gears,
         lamps,
         turned,

@@ -2,7 +2,7 @@
 use field::Elem;
 use params::Parameters;
 ghost use mathlib.Core.Path.{_≡_};
-ghost use Rattle.columns.specs.Setting.{Setting.selection};
+ghost use Rattle.shortened.specs.Setting.{shortSelection};
 ghost use Rattle.words.specs.Answers.{rolesAnswer, rolesAfter, syndromeAnswer, syndromeAfter, encodeAnswer, encodeAfter, messageAnswer, messageAfter};
 ghost use Rattle.repair.specs.Answers.{repairAnswer, repairAfter};
 ghost use Rattle.rows.specs.Answers.{writeAnswer, writeAfter, readAnswer, readAfter};
@@ -17,18 +17,21 @@ pub extern "C" fn zov_selection_roles(
     h: &[Elem],
     blocks: &[u32],
     shifts: &[u32],
+    hidden: &[u8],
     roles: &mut [u8],
 ) -> u32
     ensures { λ r.
         ⌜ r
         ≡ countedCode
-        (rolesAnswer (code m n t omega) (now (h .entry)) (selection (now (blocks .entry)) (now (shifts .entry))) (now (roles .entry))) ⌝ }
+        (rolesAnswer (code m n t omega) (now (h .entry)) (shortSelection (now (blocks .entry)) (now (shifts .entry)) (now (hidden .entry)))
+        (now (roles .entry))) ⌝ }
     ensures { λ _.
         ⌜ now (roles .exit)
-        ≡ rolesAfter (code m n t omega) (now (h .entry)) (selection (now (blocks .entry)) (now (shifts .entry))) (now (roles .entry)) ⌝ }
+        ≡ rolesAfter (code m n t omega) (now (h .entry)) (shortSelection (now (blocks .entry)) (now (shifts .entry)) (now (hidden .entry)))
+        (now (roles .entry)) ⌝ }
 {
     let c = Parameters { m, n, t, omega };
-    wire::counted_code(words::selection::roles(c, h, blocks, shifts, roles))
+    wire::counted_code(words::selection::roles(c, h, blocks, shifts, hidden, roles))
 }
 
 #[no_mangle]
@@ -40,21 +43,22 @@ pub extern "C" fn zov_selection_syndrome(
     h: &[Elem],
     blocks: &[u32],
     shifts: &[u32],
+    hidden: &[u8],
     word: &[u8],
     out: &mut [Elem],
 ) -> u32
     ensures { λ r.
         ⌜ r
         ≡ outcomeCode
-        (syndromeAnswer (code m n t omega) (now (h .entry)) (selection (now (blocks .entry)) (now (shifts .entry)))
+        (syndromeAnswer (code m n t omega) (now (h .entry)) (shortSelection (now (blocks .entry)) (now (shifts .entry)) (now (hidden .entry)))
         (now (word .entry)) (now (out .entry))) ⌝ }
     ensures { λ _.
         ⌜ now (out .exit)
-        ≡ syndromeAfter (code m n t omega) (now (h .entry)) (selection (now (blocks .entry)) (now (shifts .entry)))
+        ≡ syndromeAfter (code m n t omega) (now (h .entry)) (shortSelection (now (blocks .entry)) (now (shifts .entry)) (now (hidden .entry)))
         (now (word .entry)) (now (out .entry)) ⌝ }
 {
     let c = Parameters { m, n, t, omega };
-    wire::outcome_code(words::selection::syndrome(c, h, blocks, shifts, word, out))
+    wire::outcome_code(words::selection::syndrome(c, h, blocks, shifts, hidden, word, out))
 }
 
 #[no_mangle]
@@ -66,21 +70,22 @@ pub extern "C" fn zov_selection_encode(
     h: &[Elem],
     blocks: &[u32],
     shifts: &[u32],
+    hidden: &[u8],
     message: &[u8],
     word: &mut [u8],
 ) -> u32
     ensures { λ r.
         ⌜ r
         ≡ outcomeCode
-        (encodeAnswer (code m n t omega) (now (h .entry)) (selection (now (blocks .entry)) (now (shifts .entry)))
+        (encodeAnswer (code m n t omega) (now (h .entry)) (shortSelection (now (blocks .entry)) (now (shifts .entry)) (now (hidden .entry)))
         (now (message .entry)) (now (word .entry))) ⌝ }
     ensures { λ _.
         ⌜ now (word .exit)
-        ≡ encodeAfter (code m n t omega) (now (h .entry)) (selection (now (blocks .entry)) (now (shifts .entry)))
+        ≡ encodeAfter (code m n t omega) (now (h .entry)) (shortSelection (now (blocks .entry)) (now (shifts .entry)) (now (hidden .entry)))
         (now (message .entry)) (now (word .entry)) ⌝ }
 {
     let c = Parameters { m, n, t, omega };
-    wire::outcome_code(words::selection::encode(c, h, blocks, shifts, message, word))
+    wire::outcome_code(words::selection::encode(c, h, blocks, shifts, hidden, message, word))
 }
 
 #[no_mangle]
@@ -92,21 +97,22 @@ pub extern "C" fn zov_selection_message(
     h: &[Elem],
     blocks: &[u32],
     shifts: &[u32],
+    hidden: &[u8],
     word: &[u8],
     message: &mut [u8],
 ) -> u32
     ensures { λ r.
         ⌜ r
         ≡ outcomeCode
-        (messageAnswer (code m n t omega) (now (h .entry)) (selection (now (blocks .entry)) (now (shifts .entry)))
+        (messageAnswer (code m n t omega) (now (h .entry)) (shortSelection (now (blocks .entry)) (now (shifts .entry)) (now (hidden .entry)))
         (now (word .entry)) (now (message .entry))) ⌝ }
     ensures { λ _.
         ⌜ now (message .exit)
-        ≡ messageAfter (code m n t omega) (now (h .entry)) (selection (now (blocks .entry)) (now (shifts .entry)))
+        ≡ messageAfter (code m n t omega) (now (h .entry)) (shortSelection (now (blocks .entry)) (now (shifts .entry)) (now (hidden .entry)))
         (now (word .entry)) (now (message .entry)) ⌝ }
 {
     let c = Parameters { m, n, t, omega };
-    wire::outcome_code(words::selection::message(c, h, blocks, shifts, word, message))
+    wire::outcome_code(words::selection::message(c, h, blocks, shifts, hidden, word, message))
 }
 
 #[no_mangle]
@@ -118,21 +124,22 @@ pub extern "C" fn zov_selection_repair(
     h: &[Elem],
     blocks: &[u32],
     shifts: &[u32],
+    hidden: &[u8],
     received: &[u8],
     repaired: &mut [u8],
 ) -> u32
     ensures { λ r.
         ⌜ r
         ≡ recoveryCode
-        (repairAnswer (code m n t omega) (now (h .entry)) (selection (now (blocks .entry)) (now (shifts .entry)))
+        (repairAnswer (code m n t omega) (now (h .entry)) (shortSelection (now (blocks .entry)) (now (shifts .entry)) (now (hidden .entry)))
         (now (received .entry)) (now (repaired .entry))) ⌝ }
     ensures { λ _.
         ⌜ now (repaired .exit)
-        ≡ repairAfter (code m n t omega) (now (h .entry)) (selection (now (blocks .entry)) (now (shifts .entry)))
+        ≡ repairAfter (code m n t omega) (now (h .entry)) (shortSelection (now (blocks .entry)) (now (shifts .entry)) (now (hidden .entry)))
         (now (received .entry)) (now (repaired .entry)) ⌝ }
 {
     let c = Parameters { m, n, t, omega };
-    wire::recovery_code(repair::selection::repair(c, h, blocks, shifts, received, repaired))
+    wire::recovery_code(repair::selection::repair(c, h, blocks, shifts, hidden, received, repaired))
 }
 
 #[no_mangle]
@@ -144,6 +151,7 @@ pub extern "C" fn zov_selection_write_row(
     h: &[Elem],
     blocks: &[u32],
     shifts: &[u32],
+    hidden: &[u8],
     gear: u32,
     lamp: u32,
     word: &mut [u8],
@@ -151,13 +159,15 @@ pub extern "C" fn zov_selection_write_row(
     ensures { λ r.
         ⌜ r
         ≡ outcomeCode
-        (writeAnswer (code m n t omega) (now (h .entry)) (selection (now (blocks .entry)) (now (shifts .entry))) gear lamp (now (word .entry))) ⌝ }
+        (writeAnswer (code m n t omega) (now (h .entry)) (shortSelection (now (blocks .entry)) (now (shifts .entry))
+        (now (hidden .entry))) gear lamp (now (word .entry))) ⌝ }
     ensures { λ _.
         ⌜ now (word .exit)
-        ≡ writeAfter (code m n t omega) (now (h .entry)) (selection (now (blocks .entry)) (now (shifts .entry))) gear lamp (now (word .entry)) ⌝ }
+        ≡ writeAfter (code m n t omega) (now (h .entry)) (shortSelection (now (blocks .entry)) (now (shifts .entry))
+        (now (hidden .entry))) gear lamp (now (word .entry)) ⌝ }
 {
     let c = Parameters { m, n, t, omega };
-    wire::outcome_code(rows::selection::write_row(c, h, blocks, shifts, gear, lamp, word))
+    wire::outcome_code(rows::selection::write_row(c, h, blocks, shifts, hidden, gear, lamp, word))
 }
 
 #[no_mangle]
@@ -169,19 +179,20 @@ pub extern "C" fn zov_selection_read_row(
     h: &[Elem],
     blocks: &[u32],
     shifts: &[u32],
+    hidden: &[u8],
     received: &[u8],
     repaired: &mut [u8],
 ) -> u32
     ensures { λ r.
         ⌜ r
         ≡ readingCode
-        (readAnswer (code m n t omega) (now (h .entry)) (selection (now (blocks .entry)) (now (shifts .entry)))
+        (readAnswer (code m n t omega) (now (h .entry)) (shortSelection (now (blocks .entry)) (now (shifts .entry)) (now (hidden .entry)))
         (now (received .entry)) (now (repaired .entry))) ⌝ }
     ensures { λ _.
         ⌜ now (repaired .exit)
-        ≡ readAfter (code m n t omega) (now (h .entry)) (selection (now (blocks .entry)) (now (shifts .entry)))
+        ≡ readAfter (code m n t omega) (now (h .entry)) (shortSelection (now (blocks .entry)) (now (shifts .entry)) (now (hidden .entry)))
         (now (received .entry)) (now (repaired .entry)) ⌝ }
 {
     let c = Parameters { m, n, t, omega };
-    wire::reading_code(rows::selection::read_row(c, h, blocks, shifts, received, repaired))
+    wire::reading_code(rows::selection::read_row(c, h, blocks, shifts, hidden, received, repaired))
 }

@@ -3,7 +3,7 @@ use field::Elem;
 use params::Parameters;
 use scheduler::Dash;
 ghost use mathlib.Core.Path.{_≡_};
-ghost use Rattle.columns.specs.Setting.{Setting.wholeCode};
+ghost use Rattle.shortened.specs.Setting.{shortCode};
 ghost use Rattle.scheduler.specs.State.{dash, stateOf};
 ghost use Rattle.scheduler.specs.Answers.{startAnswer, startWaiting, startNext, offerAnswer, offerWaiting, offerWords};
 ghost use Rattle.scheduler.specs.Answers.{roundAnswer, waitingAfter, nextAfter, answersAfter, handedAfter};
@@ -16,6 +16,7 @@ pub extern "C" fn zov_senders_start(
     t: u32,
     omega: u32,
     h: &[Elem],
+    hidden: &[u8],
     senders: u32,
     repairs: u32,
     waiting: &mut [u8],
@@ -24,17 +25,21 @@ pub extern "C" fn zov_senders_start(
     ensures { λ r.
         ⌜ r
         ≡ outcomeCode
-        (startAnswer (code m n t omega) (now (h .entry)) wholeCode (dash senders repairs) (now (waiting .entry)) (now (next .entry))) ⌝ }
+        (startAnswer (code m n t omega) (now (h .entry)) (shortCode (now (hidden .entry))) (dash senders repairs) (now (waiting .entry))
+        (now (next .entry))) ⌝ }
     ensures { λ _.
         ⌜ now (waiting .exit)
-        ≡ startWaiting (code m n t omega) (now (h .entry)) wholeCode (dash senders repairs) (now (waiting .entry)) (now (next .entry)) ⌝ }
+        ≡ startWaiting (code m n t omega) (now (h .entry)) (shortCode (now (hidden .entry))) (dash senders repairs) (now (waiting .entry))
+        (now (next .entry)) ⌝ }
     ensures { λ _.
         ⌜ now (next .exit)
-        ≡ startNext (code m n t omega) (now (h .entry)) wholeCode (dash senders repairs) (now (waiting .entry)) (now (next .entry)) ⌝ }
+        ≡ startNext (code m n t omega) (now (h .entry)) (shortCode (now (hidden .entry))) (dash senders repairs) (now (waiting .entry))
+        (now (next .entry)) ⌝ }
 {
     wire::outcome_code(scheduler::start(
         Parameters { m, n, t, omega },
         h,
+        hidden,
         Dash { senders, repairs },
         waiting,
         next,
@@ -48,6 +53,7 @@ pub extern "C" fn zov_senders_offer(
     t: u32,
     omega: u32,
     h: &[Elem],
+    hidden: &[u8],
     senders: u32,
     repairs: u32,
     sender: u32,
@@ -58,20 +64,24 @@ pub extern "C" fn zov_senders_offer(
     ensures { λ r.
         ⌜ r
         ≡ outcomeCode
-        (offerAnswer (code m n t omega) (now (h .entry)) wholeCode (dash senders repairs) sender (now (word .entry)) (now (waiting .entry))
+        (offerAnswer (code m n t omega) (now (h .entry)) (shortCode (now (hidden .entry))) (dash senders repairs) sender (now (word .entry))
+        (now (waiting .entry))
         (now (words .entry))) ⌝ }
     ensures { λ _.
         ⌜ now (waiting .exit)
-        ≡ offerWaiting (code m n t omega) (now (h .entry)) wholeCode (dash senders repairs) sender (now (word .entry)) (now (waiting .entry))
+        ≡ offerWaiting (code m n t omega) (now (h .entry)) (shortCode (now (hidden .entry))) (dash senders repairs) sender (now (word .entry))
+        (now (waiting .entry))
         (now (words .entry)) ⌝ }
     ensures { λ _.
         ⌜ now (words .exit)
-        ≡ offerWords (code m n t omega) (now (h .entry)) wholeCode (dash senders repairs) sender (now (word .entry)) (now (waiting .entry))
+        ≡ offerWords (code m n t omega) (now (h .entry)) (shortCode (now (hidden .entry))) (dash senders repairs) sender (now (word .entry))
+        (now (waiting .entry))
         (now (words .entry)) ⌝ }
 {
     wire::outcome_code(scheduler::offer(
         Parameters { m, n, t, omega },
         h,
+        hidden,
         Dash { senders, repairs },
         sender,
         word,
@@ -87,6 +97,7 @@ pub extern "C" fn zov_senders_round(
     t: u32,
     omega: u32,
     h: &[Elem],
+    hidden: &[u8],
     senders: u32,
     repairs: u32,
     waiting: &mut [u8],
@@ -98,28 +109,29 @@ pub extern "C" fn zov_senders_round(
     ensures { λ r.
         ⌜ r
         ≡ outcomeCode
-        (roundAnswer (code m n t omega) (now (h .entry)) wholeCode (dash senders repairs)
+        (roundAnswer (code m n t omega) (now (h .entry)) (shortCode (now (hidden .entry))) (dash senders repairs)
         (stateOf (now (waiting .entry)) (now (words .entry)) (now (next .entry))) (now (answers .entry)) (now (handed .entry))) ⌝ }
     ensures { λ _.
         ⌜ now (waiting .exit)
-        ≡ waitingAfter (code m n t omega) (now (h .entry)) wholeCode (dash senders repairs)
+        ≡ waitingAfter (code m n t omega) (now (h .entry)) (shortCode (now (hidden .entry))) (dash senders repairs)
         (stateOf (now (waiting .entry)) (now (words .entry)) (now (next .entry))) (now (answers .entry)) (now (handed .entry)) ⌝ }
     ensures { λ _.
         ⌜ now (next .exit)
-        ≡ nextAfter (code m n t omega) (now (h .entry)) wholeCode (dash senders repairs)
+        ≡ nextAfter (code m n t omega) (now (h .entry)) (shortCode (now (hidden .entry))) (dash senders repairs)
         (stateOf (now (waiting .entry)) (now (words .entry)) (now (next .entry))) (now (answers .entry)) (now (handed .entry)) ⌝ }
     ensures { λ _.
         ⌜ now (answers .exit)
-        ≡ answersAfter (code m n t omega) (now (h .entry)) wholeCode (dash senders repairs)
+        ≡ answersAfter (code m n t omega) (now (h .entry)) (shortCode (now (hidden .entry))) (dash senders repairs)
         (stateOf (now (waiting .entry)) (now (words .entry)) (now (next .entry))) (now (answers .entry)) (now (handed .entry)) ⌝ }
     ensures { λ _.
         ⌜ now (handed .exit)
-        ≡ handedAfter (code m n t omega) (now (h .entry)) wholeCode (dash senders repairs)
+        ≡ handedAfter (code m n t omega) (now (h .entry)) (shortCode (now (hidden .entry))) (dash senders repairs)
         (stateOf (now (waiting .entry)) (now (words .entry)) (now (next .entry))) (now (answers .entry)) (now (handed .entry)) ⌝ }
 {
     wire::outcome_code(scheduler::round(
         Parameters { m, n, t, omega },
         h,
+        hidden,
         Dash { senders, repairs },
         waiting,
         words,

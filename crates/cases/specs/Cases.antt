@@ -26,7 +26,7 @@ use Rattle.blocks.specs.Answers.{sizeRules, blockRules, pairRules as blockPairR
 use Rattle.dyadic.specs.Block.{blockProduct, total, quotient, blockInverse}
 use Rattle.dyadic.specs.Invertible.{isInvertible}
 use Rattle.params.specs.declared.Parameters.{Parameters}
-use Rattle.params.specs.Code.{codeFault, isLength, isRootCount, shapeRules, codeRules}
+use Rattle.params.specs.Code.{isLength, isRootCount, shapeRules, codeRules}
 use Rattle.essence.specs.Choices.{choiceSum, vanishes, dependent}
 use Rattle.essence.specs.Essence.{essenceFrom, essenceOf, chosenAt, signatureOf as signatureFrom}
 use Rattle.essence.specs.Answers.{isValueCount, shapeRules as essenceShapeRules, essenceRules, essenceFault, essenceAnswer, essenceAfter}
@@ -40,7 +40,9 @@ use Rattle.messages.specs.MessageRules.{messageRules}
 use Rattle.words.specs.Answers.{encodeFault, encodeAnswer, encodeAfter}
 use Rattle.parity.specs.Columns.{wordOf, isSumOf, isSum, isMessageColumn, dimension, messageOf, encodingOf}
 use Rattle.algebra.specs.Places.{count, chosen, found}
-use Rattle.columns.specs.Setting.{Setting.wholeCode, columnsOf, settingRules}
+use Rattle.columns.specs.Choice.{allColumns, choiceRules}
+use Rattle.shortened.specs.Marks.{sentCount, sentOf, hiddenPass, hidesMessages, markRules}
+use Rattle.shortened.specs.Setting.{shortCode, places, columnsOf, settingRules}
 use Rattle.parity.specs.Word.{whole, parityAt, held, syndromeAt, isCodeWord}
 use Rattle.slices.specs.Bits.{allBits}
 use Rattle.nearest.specs.Repair.{differs, distance, isNear, isRepairable, repairedOf}
@@ -70,6 +72,13 @@ marked n = tabulate n mark
     mark : ℕ → ℕ
     mark i = 99
 
+-- marks that hide nothing
+sent : ℕ → List ℕ
+sent n = tabulate n zeroAt
+  where
+    zeroAt : ℕ → ℕ
+    zeroAt i = 0
+
 blockProductOf : ℕ → List ℕ → List ℕ → List ℕ
 blockProductOf m a b =
     let lent = marked (length a) in outcome (blockProductAnswer m a b lent) (blockProductAfter m a b lent)
@@ -85,7 +94,8 @@ card m n = record { m = m; n = n; t = 1; omega = 0 }
 -- whether a signature is accepted, with one root and no offset, and its support
 signatureOf : ℕ → List ℕ → List ℕ
 signatureOf m h =
-    let lent = marked (length h) in outcome (checkAnswer (card m (length h)) h lent lent) (supportAfter (card m (length h)) h lent lent)
+    let lent = marked (length h) in
+    let none = sent (length h) in outcome (checkAnswer (card m (length h)) h none lent lent) (supportAfter (card m (length h)) h none lent lent)
 
 -- the essence of a signature of 2^e entries, and the signature of an essence with as much room
 essenceFor : ℕ → ℕ → List ℕ → List ℕ
@@ -104,13 +114,16 @@ signatureT = 12 ∷ 8 ∷ 10 ∷ 22 ∷ 26 ∷ 9 ∷ 16 ∷ 21 ∷ 14 ∷ 5 ∷ 
 signatureA : List ℕ
 signatureA = 7 ∷ 2 ∷ 3 ∷ 4 ∷ []
 
-encodingA : List ℕ → List ℕ
-encodingA message =
-    outcome (encodeAnswer (card 3 4) signatureA wholeCode message (marked 4)) (encodeAfter (card 3 4) signatureA wholeCode message (marked 4))
+-- on card A, with these marks
+encodingA : List ℕ → List ℕ → List ℕ
+encodingA hidden message =
+    let s = shortCode hidden in
+    let lent = marked (places s) in outcome (encodeAnswer (card 3 4) signatureA s message lent) (encodeAfter (card 3 4) signatureA s message lent)
 
-repairA : List ℕ → List ℕ
-repairA received =
-    recovery (repairAnswer (card 3 4) signatureA wholeCode received (marked 4)) (repairAfter (card 3 4) signatureA wholeCode received (marked 4))
+repairA : List ℕ → List ℕ → List ℕ
+repairA hidden received =
+    let s = shortCode hidden in
+    let lent = marked (places s) in recovery (repairAnswer (card 3 4) signatureA s received lent) (repairAfter (card 3 4) signatureA s received lent)
 
 -- ---- the table
 
@@ -136,9 +149,14 @@ table =
     ∷ is (signatureOf 2 (1 ∷ 0 ∷ [])) (4 ∷ marked 2)
     ∷ is (signatureOf 2 (1 ∷ 2 ∷ [])) (0 ∷ 0 ∷ 2 ∷ [])
     -- "card A: message 1 is word 1 0 1 1." "1 0 1 0 is repaired to it, count 1." "1 1 0 0 gives 10."
-    ∷ is (encodingA (1 ∷ [])) (0 ∷ 1 ∷ 0 ∷ 1 ∷ 1 ∷ [])
-    ∷ is (repairA (1 ∷ 0 ∷ 1 ∷ 0 ∷ [])) (0 ∷ 1 ∷ 1 ∷ 0 ∷ 1 ∷ 1 ∷ [])
-    ∷ is (repairA (1 ∷ 1 ∷ 0 ∷ 0 ∷ [])) (10 ∷ marked 4)
+    ∷ is (encodingA (sent 4) (1 ∷ [])) (0 ∷ 1 ∷ 0 ∷ 1 ∷ 1 ∷ [])
+    ∷ is (repairA (sent 4) (1 ∷ 0 ∷ 1 ∷ 0 ∷ [])) (0 ∷ 1 ∷ 1 ∷ 0 ∷ 1 ∷ 1 ∷ [])
+    ∷ is (repairA (sent 4) (1 ∷ 1 ∷ 0 ∷ 0 ∷ [])) (10 ∷ marked 4)
+    -- Card A with its one message column hidden: the empty message, and the word 0 0 0. A hidden check column, and a mark of 2, give 20.
+    ∷ is (encodingA (0 ∷ 0 ∷ 0 ∷ 1 ∷ []) []) (0 ∷ 0 ∷ 0 ∷ 0 ∷ [])
+    ∷ is (repairA (0 ∷ 0 ∷ 0 ∷ 1 ∷ []) (1 ∷ 0 ∷ 0 ∷ [])) (0 ∷ 1 ∷ 0 ∷ 0 ∷ 0 ∷ [])
+    ∷ is (encodingA (1 ∷ 0 ∷ 0 ∷ 0 ∷ []) (1 ∷ [])) (20 ∷ marked 3)
+    ∷ is (repairA (0 ∷ 0 ∷ 0 ∷ 2 ∷ []) (1 ∷ 0 ∷ 0 ∷ [])) (20 ∷ marked 3)
     -- "For card T it is 17 30 18 1 7."
     ∷ is (essenceFor 5 4 signatureT) (0 ∷ 17 ∷ 30 ∷ 18 ∷ 1 ∷ 7 ∷ [])
     ∷ is (signatureFor 5 4 (17 ∷ 30 ∷ 18 ∷ 1 ∷ 7 ∷ [])) (0 ∷ signatureT)
@@ -161,7 +179,7 @@ agreeing (c ∷ cs) e =
     let (here, rest) = both-true (sameList (c .given) (c .said)) (agree cs) e in (sameList-is (c .given) (c .said) .0 here, agreeing cs rest)
 
 table-agrees : agree table ≡ true
-unfolding agree table is element outcome recovery marked card blockProductOf blockInverseOf signatureOf essenceFor signatureFor signatureT signatureA encodingA repairA elementRules elementFault pairFault productAnswer inverseAnswer polyProduct cutBack remainder product squares inverse fault unless-refused isWidth isElement words word allElements isPower sizeRules blockRules blockPairRules inverseRules blockPairFault blockInverseFault blockProductAnswer blockProductAfter blockInverseAnswer blockInverseAfter blockProduct total quotient blockInverse isInvertible choiceSum vanishes dependent essenceFrom essenceOf chosenAt signatureFrom isValueCount essenceShapeRules essenceRules essenceFault essenceAnswer essenceAfter valueRules signatureFault signatureAnswer signatureAfter codeFault checkFault checkAnswer supportAfter isLength isRootCount shapeRules signatureRules codeRules rootAt supportAt inverseAt nonzero noZero pairKept affine linear distinct messageRules encodeFault encodeAnswer encodeAfter count chosen wordOf found sameList sameEntry isSumOf isSum isMessageColumn dimension messageOf encodingOf whole columnsOf settingRules allBits parityAt held syndromeAt isCodeWord wordRules turnedCount repairFault repairAnswer repairAfter distance isNear isRepairable differs repairedOf all some bitAt sum tabulate _⊕_
+unfolding agree table is element outcome recovery marked sent card blockProductOf blockInverseOf signatureOf essenceFor signatureFor signatureT signatureA encodingA repairA elementRules elementFault pairFault productAnswer inverseAnswer polyProduct cutBack remainder product squares inverse fault unless-refused isWidth isElement words word allElements isPower sizeRules blockRules blockPairRules inverseRules blockPairFault blockInverseFault blockProductAnswer blockProductAfter blockInverseAnswer blockInverseAfter blockProduct total quotient blockInverse isInvertible choiceSum vanishes dependent essenceFrom essenceOf chosenAt signatureFrom isValueCount essenceShapeRules essenceRules essenceFault essenceAnswer essenceAfter valueRules signatureFault signatureAnswer signatureAfter checkFault checkAnswer supportAfter isLength isRootCount shapeRules signatureRules codeRules rootAt supportAt inverseAt nonzero noZero pairKept affine linear distinct messageRules encodeFault encodeAnswer encodeAfter count chosen wordOf found sameList sameEntry isSumOf isSum isMessageColumn dimension messageOf encodingOf whole allColumns choiceRules sentCount sentOf hiddenPass hidesMessages markRules columnsOf settingRules allBits parityAt held syndromeAt isCodeWord wordRules turnedCount repairFault repairAnswer repairAfter distance isNear isRepairable differs repairedOf all some bitAt sum tabulate _⊕_
 table-agrees = refl
 
 pub table-holds : Hold table

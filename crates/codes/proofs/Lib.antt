@@ -1,1 +1,2 @@
 pub mod Checked
+pub mod Comparing

@@ -6,7 +6,7 @@ use lib.Dec.{eqb}
 use lib.ListN.{length}
 use Rattle.algebra.specs.Tabulate.{tabulate}
 use Rattle.field.specs.Gf.{gf}
-use Rattle.refusals.specs.Rules.{unless-refused}
+use Rattle.refusals.specs.Rules.{Rule, fault, unless-refused}
 use Rattle.refusals.specs.declared.Outcome.{Outcome}
 use Rattle.refusals.specs.declared.Outcome.the-variants.{Done, Refused}
 use Rattle.params.specs.declared.Parameters.{Parameters}
@@ -14,14 +14,14 @@ use Rattle.codes.specs.declared.Sameness.{Sameness}
 use Rattle.codes.specs.declared.Sameness.the-variants.{Same, Different, Refused as NotCompared}
 use Rattle.signature.specs.Signature.{rootAt, supportAt}
 use Rattle.algebra.specs.Lists.{entryOf}
-use Rattle.params.specs.Code.{codeFault}
+use Rattle.shortened.specs.Setting.{shortCode, settingRules}
 use Rattle.codes.specs.Same.{sameCode}
 
 -- ---- check: both buffers have to have n entries
 
-module _ (c : Parameters) (h roots support : List ℕ) where
+module _ (c : Parameters) (h hidden roots support : List ℕ) where
   unfoldable pub checkFault : ℕ
-  checkFault = codeFault (eqb (length roots) (c .n) && eqb (length support) (c .n)) c h
+  checkFault = fault (settingRules c h (shortCode hidden) (eqb (length roots) (c .n) && eqb (length support) (c .n)) true)
 
   unfoldable pub checkAnswer : Outcome
   checkAnswer = unless-refused checkFault Refused Done
@@ -45,10 +45,14 @@ unfoldable pub compared : Bool → Sameness
 compared true = Same
 compared false = Different
 
+-- the rules of a card, with its marks
+abbrev pub cardRules : Parameters → List ℕ → List ℕ → List Rule
+cardRules c h hidden = settingRules c h (shortCode hidden) true true
+
 -- "a fault in either brings its number, the lowest of both cards"
-module _ (c₁ : Parameters) (h₁ : List ℕ) (c₂ : Parameters) (h₂ : List ℕ) where
+module _ (c₁ : Parameters) (h₁ hidden₁ : List ℕ) (c₂ : Parameters) (h₂ hidden₂ : List ℕ) where
   unfoldable pub sameFault : ℕ
-  sameFault = lowest (codeFault true c₁ h₁) (codeFault true c₂ h₂)
+  sameFault = lowest (fault (cardRules c₁ h₁ hidden₁)) (fault (cardRules c₂ h₂ hidden₂))
 
   unfoldable pub sameAnswer : Sameness
-  sameAnswer = unless-refused sameFault NotCompared (compared (sameCode c₁ h₁ c₂ h₂))
+  sameAnswer = unless-refused sameFault NotCompared (compared (sameCode c₁ h₁ hidden₁ c₂ h₂ hidden₂))

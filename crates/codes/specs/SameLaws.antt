@@ -13,8 +13,8 @@ use Rattle.params.specs.declared.Parameters.{Parameters}
 use Rattle.codes.specs.Agree.{Agree}
 use Rattle.codes.specs.Same.{sameCode}
 
-module _ (c₁ : Parameters) (h₁ : List ℕ) (c₂ : Parameters) (h₂ : List ℕ) where
-  pub sameCode-is : (sameCode c₁ h₁ c₂ h₂ ≡ true) ↔ Agree c₁ h₁ c₂ h₂
+module _ (c₁ : Parameters) (h₁ hidden₁ : List ℕ) (c₂ : Parameters) (h₂ hidden₂ : List ℕ) where
+  pub sameCode-is : (sameCode c₁ h₁ hidden₁ c₂ h₂ hidden₂ ≡ true) ↔ Agree c₁ h₁ hidden₁ c₂ h₂ hidden₂
   unfolding sameCode
   sameCode-is =
       let m? = eqb (c₁ .m) (c₂ .m) in
@@ -22,7 +22,8 @@ module _ (c₁ : Parameters) (h₁ : List ℕ) (c₂ : Parameters) (h₂ : List 
       let t? = eqb (c₁ .t) (c₂ .t) in
       let ω? = eqb (c₁ .omega) (c₂ .omega) in (
         λ every.
-            let (numbers, h-same) = both-true (m? && n? && t? && ω?) (sameList h₁ h₂) every in
+            let (entries, marks-same) = both-true (m? && n? && t? && ω? && sameList h₁ h₂) (sameList hidden₁ hidden₂) every in
+            let (numbers, h-same) = both-true (m? && n? && t? && ω?) (sameList h₁ h₂) entries in
             let (shape, ω-same) = both-true (m? && n? && t?) ω? numbers in
             let (lengths, t-same) = both-true (m? && n?) t? shape in
             let (m-same, n-same) = both-true m? n? lengths in
@@ -32,10 +33,11 @@ module _ (c₁ : Parameters) (h₁ : List ℕ) (c₂ : Parameters) (h₂ : List 
               t-same = eqb-true (c₁ .t) (c₂ .t) t-same;
               ω-same = eqb-true (c₁ .omega) (c₂ .omega) ω-same;
               h-same = sameList-is h₁ h₂ .0 h-same;
+              marks-same = sameList-is hidden₁ hidden₂ .0 marks-same;
             },
         λ e.
             let lengths = both-hold (eq-eqb (c₁ .m) (c₂ .m) (e .m-same)) (eq-eqb (c₁ .n) (c₂ .n) (e .n-same)) in
             let shape = both-hold lengths (eq-eqb (c₁ .t) (c₂ .t) (e .t-same)) in
             let numbers = both-hold shape (eq-eqb (c₁ .omega) (c₂ .omega) (e .ω-same)) in
-            both-hold numbers (sameList-is h₁ h₂ .1 (e .h-same)),
+            both-hold (both-hold numbers (sameList-is h₁ h₂ .1 (e .h-same))) (sameList-is hidden₁ hidden₂ .1 (e .marks-same)),
       )

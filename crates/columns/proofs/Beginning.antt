@@ -16,23 +16,23 @@ use Rattle.params.specs.declared.Parameters.{Parameters}
 use Rattle.params.specs.Accepted.{code-numbered, accepted, n-short}
 use Rattle.params.specs.Code.{Accepted, codeFault, codeRules}
 use Rattle.parity.specs.Word.{whole}
-use Rattle.columns.specs.Begun.{Begun, Selecting}
+use Rattle.columns.specs.Listed.{Listed, Selecting}
 use Rattle.columns.specs.Fits.{Chosen}
 use Rattle.columns.specs.SelectionLaws.{t-positive, selected-inside}
-use Rattle.columns.specs.Setting.{Setting, Setting.wholeCode, Setting.selection, selectedColumn, places, columnsOf}
-use Rattle.columns.specs.Setting.{selectionRules, settingRules}
-use Rattle.columns.specs.SettingLaws.{chosen, places-short}
+use Rattle.columns.specs.Choice.{Choice, Choice.wholeCode, Choice.selection, selectedColumn, allPlaces, allColumns}
+use Rattle.columns.specs.Choice.{selectionRules, choiceRules}
+use Rattle.columns.specs.ChoiceLaws.{chosen, all-short}
 
-module _ (c : Parameters) (h : List ℕ) (s : Setting) (others words : Bool) (columns : List ℕ) where
-  begun-refused : {k : ℕ} → k ≡ fault (settingRules c h s others words) → k ≢ 0 → Begun c h s others words columns (Refused k)
-  begun-refused e ne = record { answer = refuse Refused (Count (places c s)) e ne; numbered = λ none. absurd (ne (e ∙ none)) }
+module _ (c : Parameters) (h : List ℕ) (s : Choice) (others full : Bool) (columns : List ℕ) where
+  listed-refused : {k : ℕ} → k ≡ fault (choiceRules c h s others full) → k ≢ 0 → Listed c h s others full columns (Refused k)
+  listed-refused e ne = record { answer = refuse Refused (Count (allPlaces c s)) e ne; numbered = λ none. absurd (ne (e ∙ none)) }
 
-  begun-counted : {k : ℕ} → fault (settingRules c h s others words) ≡ 0 → k ≡ places c s → take k columns ≡ columnsOf c s
-      → Begun c h s others words columns (Count k)
-  begun-counted {k} none e numbered =
+  listed-counted : {k : ℕ} → fault (choiceRules c h s others full) ≡ 0 → k ≡ allPlaces c s → take k columns ≡ allColumns c s
+      → Listed c h s others full columns (Count k)
+  listed-counted {k} none e numbered =
       record {
-        answer = ap Count e ∙ accept {k = 0} Refused (Count (places c s)) (sym none) refl-zero;
-        numbered = λ z. subst (λ (i : ℕ). take i columns ≡ columnsOf c s) e numbered;
+        answer = ap Count e ∙ accept {k = 0} Refused (Count (allPlaces c s)) (sym none) refl-zero;
+        numbered = λ z. subst (λ (i : ℕ). take i columns ≡ allColumns c s) e numbered;
       }
     where
       refl-zero : _≡_ {A = ℕ} 0 0
@@ -40,27 +40,27 @@ module _ (c : Parameters) (h : List ℕ) (s : Setting) (others words : Bool) (co
 
 -- ---- the whole code
 
-module _ (c : Parameters) (h : List ℕ) (others words : Bool) (columns : List ℕ) {k : ℕ} (number : k ≡ codeFault (others && words) c h) where
-  pub whole-refused : k ≢ 0 → Begun c h wholeCode others words columns (Refused k)
-  unfolding settingRules codeFault
-  whole-refused ne = begun-refused c h wholeCode others words columns number ne
+module _ (c : Parameters) (h : List ℕ) (others full : Bool) (columns : List ℕ) {k : ℕ} (number : k ≡ codeFault (others && full) c h) where
+  pub whole-refused : k ≢ 0 → Listed c h wholeCode others full columns (Refused k)
+  unfolding choiceRules codeFault
+  whole-refused ne = listed-refused c h wholeCode others full columns number ne
 
-  pub whole-begun : k ≡ 0 → take (c .n) columns ≡ whole (c .n) → Begun c h wholeCode others words columns (Count (c .n))
-  unfolding settingRules codeFault columnsOf
-  whole-begun none numbered = begun-counted c h wholeCode others words columns (sym number ∙ none) (omega arith) numbered
+  pub whole-listed : k ≡ 0 → take (c .n) columns ≡ whole (c .n) → Listed c h wholeCode others full columns (Count (c .n))
+  unfolding choiceRules codeFault allColumns
+  whole-listed none numbered = listed-counted c h wholeCode others full columns (sym number ∙ none) (omega arith) numbered
 
   pub whole-short : k ≡ 0 → c .n ≤ longest
   unfolding codeFault
-  whole-short none = n-short (accepted (others && words) c h (sym number ∙ none) .1 .limits)
+  whole-short none = n-short (accepted (others && full) c h (sym number ∙ none) .1 .limits)
 
 -- ---- a selection
 
-module _ (c : Parameters) (h blocks shifts : List ℕ) (others words : Bool) {k : ℕ} (number : k ≡ codeFault others c h) where
-  pub code-refused : (columns : List ℕ) → k ≢ 0 → Begun c h (selection blocks shifts) others words columns (Refused k)
-  unfolding settingRules codeFault
+module _ (c : Parameters) (h blocks shifts : List ℕ) (others full : Bool) {k : ℕ} (number : k ≡ codeFault others c h) where
+  pub code-refused : (columns : List ℕ) → k ≢ 0 → Listed c h (selection blocks shifts) others full columns (Refused k)
+  unfolding choiceRules codeFault
   code-refused columns ne =
-      begun-refused c h (selection blocks shifts) others words columns
-      (number ∙ sym (fault-first (codeRules others c h) (selectionRules c blocks shifts words) (λ z. ne (number ∙ z)))) ne
+      listed-refused c h (selection blocks shifts) others full columns
+      (number ∙ sym (fault-first (codeRules others c h) (selectionRules c blocks shifts full) (λ z. ne (number ∙ z)))) ne
 
   module _ (none : k ≡ 0) where
     code : Accepted c h
@@ -76,17 +76,17 @@ module _ (c : Parameters) (h blocks shifts : List ℕ) (others words : Bool) {k 
         let fewer : c .n / c .t ≤ c .n = div-le-self (c .n) (c .t) in
         omega arith
 
-    rest : fault (settingRules c h (selection blocks shifts) others words) ≡ fault (selectionRules c blocks shifts words)
-    unfolding settingRules codeFault
-    rest = fault-rest (codeRules others c h) (selectionRules c blocks shifts words) (code-numbered others c h) (sym number ∙ none)
+    rest : fault (choiceRules c h (selection blocks shifts) others full) ≡ fault (selectionRules c blocks shifts full)
+    unfolding choiceRules codeFault
+    rest = fault-rest (codeRules others c h) (selectionRules c blocks shifts full) (code-numbered others c h) (sym number ∙ none)
 
-    module _ {i : ℕ} (found : i ≡ fault (selectionRules c blocks shifts words)) where
-      pub selection-refused : (columns : List ℕ) → i ≢ 0 → Begun c h (selection blocks shifts) others words columns (Refused i)
-      selection-refused columns ne = begun-refused c h (selection blocks shifts) others words columns (found ∙ sym rest) ne
+    module _ {i : ℕ} (found : i ≡ fault (selectionRules c blocks shifts full)) where
+      pub selection-refused : (columns : List ℕ) → i ≢ 0 → Listed c h (selection blocks shifts) others full columns (Refused i)
+      selection-refused columns ne = listed-refused c h (selection blocks shifts) others full columns (found ∙ sym rest) ne
 
       module _ (passed : i ≡ 0) where
         is-chosen : Chosen c blocks shifts
-        is-chosen = chosen c blocks shifts words (sym found ∙ passed) .1
+        is-chosen = chosen c blocks shifts full (sym found ∙ passed) .1
 
         pub selecting : Selecting (c .t) blocks shifts
         selecting =
@@ -97,11 +97,11 @@ module _ (c : Parameters) (h blocks shifts : List ℕ) (others words : Bool) {k 
             below l s = omega arith
 
         pub word-short : length blocks * c .t ≤ longest
-        word-short = places-short code (selection blocks shifts) is-chosen
+        word-short = all-short code (selection blocks shifts) is-chosen
 
-        pub selection-begun : (columns : List ℕ)
+        pub selection-listed : (columns : List ℕ)
             → take (length blocks * c .t) columns ≡ tabulate (length blocks * c .t) (selectedColumn (c .t) blocks shifts)
-            → Begun c h (selection blocks shifts) others words columns (Count (length blocks * c .t))
-        unfolding columnsOf
-        selection-begun columns numbered =
-            begun-counted c h (selection blocks shifts) others words columns (rest ∙ sym found ∙ passed) (omega arith) numbered
+            → Listed c h (selection blocks shifts) others full columns (Count (length blocks * c .t))
+        unfolding allColumns
+        selection-listed columns numbered =
+            listed-counted c h (selection blocks shifts) others full columns (rest ∙ sym found ∙ passed) (omega arith) numbered

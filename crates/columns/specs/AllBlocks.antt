@@ -16,9 +16,9 @@ use Rattle.params.specs.Code.{Accepted}
 use Rattle.parity.specs.Selected.{length-whole, whole-selected}
 use Rattle.parity.specs.Word.{whole}
 use Rattle.columns.specs.AllOf.{allBlocks}
-use Rattle.columns.specs.Fits.{Fits}
+use Rattle.columns.specs.Fits.{ChoiceFits}
 use Rattle.columns.specs.SelectionLaws.{t-positive}
-use Rattle.columns.specs.Setting.{Setting.wholeCode, selectedColumn, places, columnsOf}
+use Rattle.columns.specs.Choice.{Choice.wholeCode, selectedColumn, allPlaces, allColumns}
 
 -- a power of two that is no less than another is a multiple of it
 quotient-back : (e f : ℕ) → 2 ^ f ≤ 2 ^ e → 2 ^ e / 2 ^ f * 2 ^ f ≡ 2 ^ e
@@ -46,7 +46,7 @@ module _ {c : Parameters} {h : List ℕ} (A : Accepted c h) where
   no-shift : (b : ℕ) → b < c .n / c .t → entryOf (tabulate (c .n / c .t) (λ b. 0)) b ≡ 0
   no-shift b l = getD-tabulate (c .n / c .t) (λ b. 0) b 0 l
 
-  pub all-fit : Fits c (allBlocks c)
+  pub all-fit : ChoiceFits c (allBlocks c)
   all-fit =
       record {
         some = rw length-whole (le-div-iff-mul-le (t-positive A) .1 (rw one-mul t-below));
@@ -57,7 +57,7 @@ module _ {c : Parameters} {h : List ℕ} (A : Accepted c h) where
         shifts-inside = λ b l. rw (no-shift b (rw length-tabulate at l)) (t-positive A);
       }
 
-  pub all-places : places c (allBlocks c) ≡ c .n
+  pub all-places : allPlaces c (allBlocks c) ≡ c .n
   all-places = ap (λ (k : ℕ). k * c .t) (length-whole (c .n / c .t)) ∙ blocks-fill
 
   -- place j is column j
@@ -71,8 +71,8 @@ module _ {c : Parameters} {h : List ℕ} (A : Accepted c h) where
       inside : j / c .t < c .n / c .t
       inside = div-lt-iff-lt-mul (t-positive A) .1 (rw blocks-fill l)
 
-  pub all-columns : columnsOf c (allBlocks c) ≡ columnsOf c wholeCode
-  unfolding columnsOf whole
+  pub all-columns : allColumns c (allBlocks c) ≡ allColumns c wholeCode
+  unfolding allColumns whole
   all-columns =
       ap (λ (k : ℕ). tabulate k (selectedColumn (c .t) (whole (c .n / c .t)) (tabulate (c .n / c .t) (λ b. 0)))) all-places
       ∙ tabulate-cong (c .n) all-selected

@@ -19,7 +19,7 @@ use Rattle.parity.specs.Parity.{parity-signature}
 use Rattle.parity.specs.Word.{parityAt}
 use Rattle.columns.specs.Fits.{Chosen}
 use Rattle.columns.specs.SelectionLaws.{block-at, selected-at, selected-inside, shifted-below, t-positive}
-use Rattle.columns.specs.Setting.{Setting.selection, selectedColumn, columnsOf}
+use Rattle.columns.specs.Choice.{Choice.selection, selectedColumn, allColumns}
 use Rattle.columns.specs.ShiftedSignature.{shiftedSignature}
 
 -- a row below 2^f, added to a column, keeps to the column's block
@@ -33,8 +33,8 @@ module _ {c : Parameters} {h : List ℕ} (A : Accepted c h) {blocks shifts : Lis
 
   -- the column at place r of block b
   pub block-column : {r : ℕ} → r < c .t
-      → entryOf (columnsOf c (selection blocks shifts)) (b * c .t + r) ≡ entryOf blocks b * c .t + (r ⊕ entryOf shifts b)
-  unfolding columnsOf
+      → entryOf (allColumns c (selection blocks shifts)) (b * c .t + r) ≡ entryOf blocks b * c .t + (r ⊕ entryOf shifts b)
+  unfolding allColumns
   block-column {r} l =
       getD-tabulate (length blocks * c .t) (selectedColumn (c .t) blocks shifts) (b * c .t + r) 0 (place-inside l)
       ∙ selected-at (t-positive A) blocks shifts b l
@@ -55,7 +55,7 @@ module _ {c : Parameters} {h : List ℕ} (A : Accepted c h) {blocks shifts : Lis
   sum-below : (i r : ℕ) → i < c .t → r < c .t → i ⊕ r < c .t
   sum-below i r = subst (λ (t : ℕ). i < t → r < t → i ⊕ r < t) (sym (A .limits .t-power)) (⊕-lt (A .limits .f) i r)
 
-  pub block-dyadic : Same (c .t) (λ i r. parityAt c h i (entryOf (columnsOf c (selection blocks shifts)) (b * c .t + r)))
+  pub block-dyadic : Same (c .t) (λ i r. parityAt c h i (entryOf (allColumns c (selection blocks shifts)) (b * c .t + r)))
       (matrix (gf (c .m)) (shiftedSignature c h blocks shifts b))
   unfolding matrix shiftedSignature
   block-dyadic i r li lr =

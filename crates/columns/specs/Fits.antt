@@ -6,7 +6,7 @@ use lib.ListN.{length}
 use Rattle.algebra.specs.Distinct.{Distinct}
 use Rattle.algebra.specs.Lists.{entryOf}
 use Rattle.params.specs.declared.Parameters.{Parameters}
-use Rattle.columns.specs.Setting.{Setting, Setting.wholeCode, Setting.selection}
+use Rattle.columns.specs.Choice.{Choice, Choice.wholeCode, Choice.selection}
 
 -- every number is below k
 abbrev pub Below : ℕ → List ℕ → Type 0
@@ -22,6 +22,6 @@ pub record Chosen (c : Parameters) (blocks shifts : List ℕ) : Type 0 where
   pub shifts-inside : Below (c .t) shifts
 
 -- a whole code has nothing to choose
-abbrev pub Fits : Parameters → Setting → Type 0
-Fits c wholeCode = Unit {0}
-Fits c (selection blocks shifts) = Chosen c blocks shifts
+abbrev pub ChoiceFits : Parameters → Choice → Type 0
+ChoiceFits c wholeCode = Unit {0}
+ChoiceFits c (selection blocks shifts) = Chosen c blocks shifts

@@ -1,11 +1,11 @@
-pub mod Setting
+pub mod Choice
 pub mod Fits
-pub mod Begun
+pub mod Listed
 pub mod ShiftedSignature
 pub mod AllOf
 pub mod SelectionLaws
-pub mod SettingLaws
-pub mod BegunLaws
+pub mod ChoiceLaws
+pub mod ListedLaws
 pub mod DyadicBlocks
 pub mod AllBlocks
 pub mod Offsets

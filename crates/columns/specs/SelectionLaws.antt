@@ -15,7 +15,7 @@ use Rattle.algebra.specs.XorLaws.{⊕-lt, ⊕-comm, ⊕-cancel}
 use Rattle.params.specs.declared.Parameters.{Parameters}
 use Rattle.params.specs.Code.{Accepted}
 use Rattle.columns.specs.Fits.{Chosen}
-use Rattle.columns.specs.Setting.{selectedColumn}
+use Rattle.columns.specs.Choice.{selectedColumn}
 
 -- ---- block and place in it
 

@@ -1,7 +1,8 @@
 // Which columns of a code the places of a word stand for: those of the whole code, or of a selection of its blocks. A call on words begins here: the
 // code is tested, and what is lent, and the columns are numbered.
 //
-// The functions that begin a call answer the number of places, with as many columns at the front of `columns`, or the number that refuses the call.
+// The functions that begin a call answer the number of allPlaces, with as many columns at the front of `columns`, or the number that refuses
+// the call.
 use basis::Column;
 use field::Elem;
 use params::Parameters;
@@ -20,14 +21,14 @@ ghost use Rattle.refusals.specs.declared.Counted.the-variants.{Count};
 ghost use Rattle.slices.specs.Lengths.{longest};
 ghost use Rattle.signature.specs.Inverses.{Inverted};
 ghost use Rattle.parity.specs.Word.{whole};
-ghost use Rattle.columns.specs.Setting.{Setting.wholeCode, Setting.selection, selectedColumn, allBelow, selectionRules};
+ghost use Rattle.columns.specs.Choice.{Choice.wholeCode, Choice.selection, selectedColumn, allBelow, selectionRules};
 ghost use Rattle.columns.specs.Fits.{Below};
-ghost use Rattle.columns.specs.Begun.{Begun, Selecting};
+ghost use Rattle.columns.specs.Listed.{Listed, Selecting};
 
-// Whether the buffers lent to a call have their lengths: the words, with an entry for each place, and others, whose lengths the code alone tells.
-pub struct Lent {
+// Whether what is lent to a call has its length: what has an entry for each place, hidden or sent, and others, whose lengths the code alone tells.
+pub struct Lengths {
     pub others: bool,
-    pub words: bool,
+    pub places: bool,
 }
 
 // The columns of a whole code of length n: place j is column j.
@@ -40,28 +41,19 @@ pub fn number_columns(n: usize, columns: &mut [Column])
     }
 }
 
-// Begins a call on words of the whole code.
-pub fn whole_code(c: Parameters, h: &[Elem], lent: Lent, columns: &mut [Column]) -> Counted
-    requires { ⌜ longest ≤ length (now columns) ⌝ }
-    ensures { λ r. ⌜ Begun c (now (h .entry)) wholeCode (lent .others) (lent .words) (now (columns .exit)) r ⌝ }
-{
-    let mut inverses: [Elem; LONGEST] = [0; LONGEST];
-    whole_code_inverses(c, h, lent, &mut inverses, columns)
-}
-
-// The same, and where it is not refused `inverses` begins with the inverses of the signature's entries.
-pub fn whole_code_inverses(
+// The columns of the whole code. Where the call is not refused `inverses` begins with the inverses of the signature's entries.
+pub fn whole_columns(
     c: Parameters,
     h: &[Elem],
-    lent: Lent,
+    lent: Lengths,
     inverses: &mut [Elem],
     columns: &mut [Column],
 ) -> Counted
     requires { ⌜ (longest ≤ length (now inverses)) × (longest ≤ length (now columns)) ⌝ }
-    ensures { λ r. ⌜ Begun c (now (h .entry)) wholeCode (lent .others) (lent .words) (now (columns .exit)) r ⌝ }
+    ensures { λ r. ⌜ Listed c (now (h .entry)) wholeCode (lent .others) (lent .places) (now (columns .exit)) r ⌝ }
     ensures { λ r. ⌜ ((k : ℕ) → r ≡ Count k → Inverted (c .m) (now (h .entry)) (now (inverses .exit))) ⌝ }
 {
-    let number = code_fault_inverses(c, h, lent.others & lent.words, inverses);
+    let number = code_fault_inverses(c, h, lent.others & lent.places, inverses);
     if number != 0 {
         return Counted::Refused(number);
     }
@@ -69,55 +61,37 @@ pub fn whole_code_inverses(
     Counted::Count(c.n)
 }
 
-// Whether this is the length of so many parts, each as long: of a word of blocks, or of the marks of several words. The product may be too large for
-// a usize, so it is the length that is divided.
-pub fn is_parts_length(long: usize, parts: usize, each: u32) -> bool
+// Whether this is the length of so many parts, each as long: of the marks of a selection's places, or of several words. The product may be too large
+// for a usize, so it is the length that is divided.
+pub fn is_parts_length(long: usize, parts: usize, each: usize) -> bool
     ensures { λ r. ⌜ r ≡ eqb long (parts * each) ⌝ }
 {
-    let each = each as usize;
     if each == 0 {
         return long == 0;
     }
     (long / each == parts) & (long % each == 0)
 }
 
-// Begins a call on words of a selection.
-pub fn selected_code(
+// The columns of a selection, and the same inverses.
+pub fn selected_columns(
     c: Parameters,
     h: &[Elem],
     blocks: &[u32],
     shifts: &[u32],
-    lent: Lent,
-    columns: &mut [Column],
-) -> Counted
-    requires { ⌜ longest ≤ length (now columns) ⌝ }
-    ensures { λ r.
-        ⌜ Begun c (now (h .entry)) (selection (now (blocks .entry)) (now (shifts .entry))) (lent .others) (lent .words) (now (columns .exit)) r ⌝ }
-{
-    let mut inverses: [Elem; LONGEST] = [0; LONGEST];
-    selected_code_inverses(c, h, blocks, shifts, lent, &mut inverses, columns)
-}
-
-// The same, and where it is not refused `inverses` begins with the inverses of the signature's entries.
-pub fn selected_code_inverses(
-    c: Parameters,
-    h: &[Elem],
-    blocks: &[u32],
-    shifts: &[u32],
-    lent: Lent,
+    lent: Lengths,
     inverses: &mut [Elem],
     columns: &mut [Column],
 ) -> Counted
     requires { ⌜ (longest ≤ length (now inverses)) × (longest ≤ length (now columns)) ⌝ }
     ensures { λ r.
-        ⌜ Begun c (now (h .entry)) (selection (now (blocks .entry)) (now (shifts .entry))) (lent .others) (lent .words) (now (columns .exit)) r ⌝ }
+        ⌜ Listed c (now (h .entry)) (selection (now (blocks .entry)) (now (shifts .entry))) (lent .others) (lent .places) (now (columns .exit)) r ⌝ }
     ensures { λ r. ⌜ ((k : ℕ) → r ≡ Count k → Inverted (c .m) (now (h .entry)) (now (inverses .exit))) ⌝ }
 {
     let number = code_fault_inverses(c, h, lent.others, inverses);
     if number != 0 {
         return Counted::Refused(number);
     }
-    let number = selection_fault(c, blocks, shifts, lent.words);
+    let number = selection_fault(c, blocks, shifts, lent.places);
     if number != 0 {
         return Counted::Refused(number);
     }
@@ -126,14 +100,14 @@ pub fn selected_code_inverses(
     Counted::Count((blocks.len() * t) as u32)
 }
 
-// The number for a selection of an accepted code, where `words` says whether the lent words have their length.
-fn selection_fault(c: Parameters, blocks: &[u32], shifts: &[u32], words: bool) -> u32
+// The number for a selection of an accepted code, where `full` says whether what has an entry for each place has its length.
+fn selection_fault(c: Parameters, blocks: &[u32], shifts: &[u32], full: bool) -> u32
     requires { ⌜ (0 < c .t) × (c .n / c .t ≤ longest) ⌝ }
-    ensures { λ r. ⌜ r ≡ fault (selectionRules c (now (blocks .entry)) (now (shifts .entry)) words) ⌝ }
+    ensures { λ r. ⌜ r ≡ fault (selectionRules c (now (blocks .entry)) (now (shifts .entry)) full) ⌝ }
 {
     let count = c.n / c.t;
     let long = blocks.len();
-    if !((1 <= long) & (long <= count as usize) & (shifts.len() == long) & words) {
+    if !((1 <= long) & (long <= count as usize) & (shifts.len() == long) & full) {
         return refusals::LENGTH;
     }
     if !all_below(count, blocks) {

@@ -3,7 +3,7 @@ use mathlib.Core.Path.{_≡_}
 use mathlib.Core.List.{List}
 use Prim.Native.Nat.{ℕ}
 use Rattle.params.specs.declared.Parameters.{Parameters}
-use Rattle.columns.specs.Setting.{Setting}
+use Rattle.shortened.specs.Setting.{Setting}
 use Rattle.words.specs.Answers.{rolesAnswer, rolesAfter, syndromeAnswer, syndromeAfter, encodeAnswer, encodeAfter, messageAnswer, messageAfter}
 use Rattle.repair.specs.Answers.{repairAnswer, repairAfter}
 use Rattle.rows.specs.Answers.{writeAnswer, writeAfter, readAnswer, readAfter}

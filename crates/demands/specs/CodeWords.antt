@@ -1,4 +1,4 @@
--- A code word in plain words: bits, one for each place, whose syndrome is zero.
+-- A code word in plain words: bits, one for each place that is sent, whose syndrome is zero.
 use mathlib.Core.Path.{_≡_, sym, _∙_, subst}
 use mathlib.Core.List.{List}
 use Prim.Native.Nat.{ℕ, _<_}
@@ -9,19 +9,19 @@ use Rattle.algebra.specs.AllLaws.{all-is, all-true}
 use Rattle.slices.specs.Bits.{Bits, IsBits}
 use Rattle.params.specs.declared.Parameters.{Parameters}
 use Rattle.parity.specs.Word.{syndromeAt, isCodeWord}
-use Rattle.columns.specs.Setting.{Setting, places, columnsOf}
-use Rattle.columns.specs.SettingLaws.{length-columns}
+use Rattle.shortened.specs.Setting.{Setting, places, columnsOf}
+use Rattle.shortened.specs.SettingLaws.{length-columns}
 use Rattle.nearest.specs.CodeWord.{CodeWord as CodeWordOn}
 
--- 01: "It is a code word if for every i below t the sum of 1/(z_i + L_j) over the places j that hold 1 is zero." The places are those of the setting,
--- whose columns stand for them.
+-- 01: "It is a code word if for every i below t the sum of 1/(z_i + L_j) over the places j that hold 1 is zero." The places are the sent ones of the
+-- setting, whose columns stand for them.
 pub record CodeWord (c : Parameters) (h : List ℕ) (s : Setting) (w : List ℕ) : Type 0 where
-  pub long : length w ≡ places c s
+  pub long : length w ≡ places s
   pub bits : Bits w
   pub zero : (i : ℕ) → i < c .t → syndromeAt c h (columnsOf c s) w i ≡ 0
 
 -- a bit for each place is one for each column
-pub bits-on : (c : Parameters) (s : Setting) {w : List ℕ} → IsBits (places c s) w → IsBits (length (columnsOf c s)) w
+pub bits-on : (c : Parameters) (s : Setting) {w : List ℕ} → IsBits (places s) w → IsBits (length (columnsOf c s)) w
 bits-on c s {w} b = subst (λ (k : ℕ). IsBits k w) (sym (length-columns c s)) b
 
 pub is-bits : {n : ℕ} {w : List ℕ} → length w ≡ n → Bits w → IsBits n w
@@ -41,7 +41,7 @@ module _ (c : Parameters) (h : List ℕ) (s : Setting) (w : List ℕ) where
   pub code-word : CodeWordOn c h (columnsOf c s) w → CodeWord c h s w
   unfolding isCodeWord
   code-word C =
-      let long : length w ≡ places c s = C .bits .long ∙ length-columns c s in
+      let long : length w ≡ places s = C .bits .long ∙ length-columns c s in
       record {
         long = long;
         bits = λ j l. C .bits .bits j (subst (λ (k : ℕ). j < k) (C .bits .long) l);

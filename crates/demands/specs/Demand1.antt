@@ -3,17 +3,20 @@
 --
 -- That every call ends is part of its proof. Of each call there is said here that a refusal leaves each buffer as it was (`..-unchanged`); and that
 -- it gives its value exactly if all its rules hold, is refused otherwise, and by the lowest number that applies (`..-refuses`). The rules of calls on
--- words, on sheets and on formulas come in parts, since there are exceptions from the lowest number: the 2, 14 and 15 of a selection come after 7; 12
--- comes after these and before all others (`write-row`, `read-row`, `ride`); the 2 of a message's length comes after 7, 14 and 15 and before 8
--- (`encode`, `message`); the steps of a ride come one after the other, each with 8 and then 11 (`ride`); 18 and 19 come before 8 (`senders`); 16
--- comes before 9 (`formula`); and 13 comes first, and the 2 of a short buffer last, for a sheet (`listing`).
+-- words, on sheets and on formulas come in parts, since there are exceptions from the lowest number: the 2, 14 and 15 of a selection come after 7,
+-- and 20 after these and before all others; the 2 of a length that follows from the marks comes after 20; 12 comes after these and before all others
+-- (`write-row`, `read-row`, `ride`); the 2 of a message's length comes after that of the word's and before 8 (`encode`, `message`); the steps of a
+-- ride come one after the other, each with 8 and then 11 (`ride`); 18 and 19 come after 20 and before 8 (`senders`); 16 comes before 9 (`formula`);
+-- and 13 comes first, and the 2 of a short buffer last, for a sheet (`listing`). No length of `check`, `same` and `roles` follows from the marks:
+-- theirs is the lowest number of all, that of `roles` for the whole code (`roles-lowest`). That of `syndrome` and `repair` is not, since the length
+-- of their words is tested after 20.
 --
 -- The one exception to demand 1: a ride that a step ends, by 8 or 11, writes the counts up to there, without that step (`ride-exception`, and
 -- `counts-up-to-there` of `Ride`). Refused by any other number, it leaves the buffer as it was (`ride-unchanged`).
 use mathlib.Core.Path.{_≡_, refl, sym, ap, ap₂, _∙_, subst}
 use mathlib.Core.Logic.{_≢_, _↔_, _⊎_, inl, inr}
-use mathlib.Core.Bool.{Bool, true, _&&_}
-use mathlib.Core.List.{List, [], _∷_, _++_, append-assoc, append-nil}
+use mathlib.Core.Bool.{Bool, true, false, _&&_}
+use mathlib.Core.List.{List, [], _∷_, _++_, append-nil}
 use Prim.Native.Nat.{ℕ, zero, suc}
 use native.Mathlib.Decide.{ℕ-discrete}
 use native.Mathlib.Omega.{arith}
@@ -40,19 +43,22 @@ use Rattle.formula.specs.Letters.{Lent}
 use Rattle.formula.specs.Reading.{TextReading}
 use Rattle.formula.specs.Answers.{isRead, readingExists, lentRules, readingRules, formulaRules, formulaFault, formulaAnswer, formulaAfter}
 use Rattle.params.specs.declared.Parameters.{Parameters}
-use Rattle.params.specs.Code.{shapeRules, codeRules, codeFault}
+use Rattle.params.specs.Code.{shapeRules, codeRules}
 use Rattle.signature.specs.Tests.{signatureRules}
 use Rattle.essence.specs.Answers.{shapeRules as essenceShapeRules, essenceRules, essenceFault, essenceAnswer, essenceAfter}
 use Rattle.essence.specs.Answers.{valueRules, signatureFault, signatureAnswer, signatureAfter}
+use Rattle.codes.specs.declared.Sameness.{Sameness}
 use Rattle.codes.specs.declared.Sameness.the-variants.{Refused as NotCompared}
 use Rattle.codes.specs.Answers.{checkFault, checkAnswer, rootsAfter, supportAfter, lowest as lower, compared, sameFault, sameAnswer}
 use Rattle.codes.specs.Lowest.{lowest-none, lowest-is}
 use Rattle.codes.specs.Same.{sameCode}
 use Rattle.parity.specs.Columns.{dimension}
-use Rattle.columns.specs.Setting.{Setting, Setting.wholeCode, Setting.selection, places, columnsOf, selectionRules, settingRules}
-use Rattle.columns.specs.SettingLaws.{length-columns}
+use Rattle.columns.specs.Choice.{Choice, Choice.wholeCode, Choice.selection, allPlaces, allColumns, selectionRules, choiceRules}
+use Rattle.shortened.specs.Marks.{hidesMessages, sentDimension, markRules}
+use Rattle.shortened.specs.Setting.{Setting, shortCode, places, columnsOf, isMarked, settingRules}
+use Rattle.shortened.specs.SettingLaws.{length-columns}
 use Rattle.messages.specs.MessageRules.{messageRules}
-use Rattle.words.specs.Answers.{bitRules, rolesFault, rolesAnswer, rolesAfter, syndromeFault, syndromeAnswer, syndromeAfter}
+use Rattle.words.specs.Answers.{bitRules, rolesRules, rolesFault, rolesAnswer, rolesAfter, syndromeFault, syndromeAnswer, syndromeAfter}
 use Rattle.words.specs.Answers.{encodeFault, encodeAnswer, encodeAfter, messageFault, messageAnswer, messageAfter}
 use Rattle.gears.specs.Rows.{isRow, rowBits, isRowMessage}
 use Rattle.repair.specs.declared.Recovery.the-variants.{Repaired, Refused as NotRepaired}
@@ -194,51 +200,119 @@ module _ (m : ℕ) (v out : List ℕ) where
   unfolding signatureAnswer signatureFault valueRules essenceShapeRules
   signature-refuses = refuses Refused Done done-apart same-outcome (valueRules m v (length out)) refl
 
+-- ---- the rules of a code, of a choice of its columns, and of the marks of hidden places
+
+-- 20
+abbrev pub hiddenRules : Parameters → List ℕ → Choice → List ℕ → List Rule
+hiddenRules c h choice hidden = (20 unless allBits hidden) ∷ (20 unless hidesMessages c h (allColumns c choice) hidden) ∷ []
+
+-- 1 to 7; of a selection 2, 14 and 15, which come after 7; and 20, which comes "after 15". `full` says that what has an entry for each place, hidden
+-- or sent, has its length, and `others` that what is lent beside has its.
+abbrev pub markedParts : Parameters → List ℕ → Choice → List ℕ → Bool → Bool → List (List Rule)
+markedParts c h wholeCode hidden others full = (codeRules (others && full) c h ++ hiddenRules c h wholeCode hidden) ∷ []
+markedParts c h (selection blocks shifts) hidden others full =
+    codeRules others c h ∷ (selectionRules c blocks shifts full ++ hiddenRules c h (selection blocks shifts) hidden) ∷ []
+
+-- a rule that asks for nothing
+no-length : (rules : List Rule) → fault (rules ++ (2 unless true) ∷ []) ≡ fault rules
+unfolding fault
+no-length [] = refl
+no-length ((n unless true) ∷ rules) = no-length rules
+no-length ((n unless false) ∷ rules) = refl
+
+module _ (c : Parameters) (h : List ℕ) where
+  -- then "a length that follows from these marks is tested right after it, as 2"
+  marked-are : (choice : Choice) (hidden : List ℕ) (others full words : Bool) (more : List (List Rule))
+      → allRules ((markedParts c h choice hidden others full ++ ((2 unless words) ∷ []) ∷ []) ++ more)
+      ≡ (choiceRules c h choice others full ++ markRules c h (allColumns c choice) hidden words) ++ allRules more
+  unfolding choiceRules codeRules shapeRules signatureRules selectionRules markRules
+  marked-are wholeCode hidden others full words more = refl
+  marked-are (selection blocks shifts) hidden others full words more = refl
+
+  marked-rise : (choice : Choice) (hidden : List ℕ) (others full : Bool) → risingParts (markedParts c h choice hidden others full) ≡ true
+  unfolding codeRules shapeRules signatureRules selectionRules
+  marked-rise wholeCode hidden others full = refl
+  marked-rise (selection blocks shifts) hidden others full = refl
+
+  -- where no length follows from the marks there is no such rule
+  marked-fault : (choice : Choice) (hidden : List ℕ) (others full : Bool)
+      → fault (choiceRules c h choice others full ++ markRules c h (allColumns c choice) hidden true)
+      ≡ fault (allRules (markedParts c h choice hidden others full))
+  unfolding choiceRules codeRules shapeRules signatureRules selectionRules markRules
+  marked-fault wholeCode hidden others full = no-length (allRules (markedParts c h wholeCode hidden others full))
+  marked-fault (selection blocks shifts) hidden others full = no-length (allRules (markedParts c h (selection blocks shifts) hidden others full))
+
 -- ---- codes
 
-module _ (c : Parameters) (h roots support : List ℕ) where
-  pub check-unchanged : {k : ℕ} → checkAnswer c h roots support ≡ Refused k
-      → (rootsAfter c h roots support ≡ roots) × (supportAfter c h roots support ≡ support)
+-- the rules of a code with a mark for each place: `others` says that what is lent beside the marks has its length
+abbrev pub shortCodeRules : Bool → Parameters → List ℕ → List ℕ → List Rule
+shortCodeRules others c h hidden = codeRules (others && eqb (length hidden) (c .n)) c h ++ hiddenRules c h wholeCode hidden
+
+short-code-fault : (c : Parameters) (h hidden : List ℕ) (others : Bool)
+    → fault (settingRules c h (shortCode hidden) others true) ≡ fault (shortCodeRules others c h hidden)
+unfolding settingRules codeRules shapeRules signatureRules
+short-code-fault c h hidden others = marked-fault c h wholeCode hidden others (eqb (length hidden) (c .n))
+
+module _ (c : Parameters) (h hidden roots support : List ℕ) where
+  pub check-unchanged : {k : ℕ} → checkAnswer c h hidden roots support ≡ Refused k
+      → (rootsAfter c h hidden roots support ≡ roots) × (supportAfter c h hidden roots support ≡ support)
   unfolding checkAnswer rootsAfter supportAfter
   check-unchanged e = (
-    refused-leaves Refused Done done-apart (checkFault c h roots support) roots _ e,
-    refused-leaves Refused Done done-apart (checkFault c h roots support) support _ e,
+    refused-leaves Refused Done done-apart (checkFault c h hidden roots support) roots _ e,
+    refused-leaves Refused Done done-apart (checkFault c h hidden roots support) support _ e,
   )
 
-  pub check-refuses : Refuses (checkAnswer c h roots support) Refused Done
-      (codeRules (eqb (length roots) (c .n) && eqb (length support) (c .n)) c h)
-  unfolding checkAnswer checkFault codeFault codeRules shapeRules signatureRules
+  -- the buffers for the roots and for the support
+  abbrev lent : Bool
+  lent = eqb (length roots) (c .n) && eqb (length support) (c .n)
+
+  pub check-refuses : Refuses (checkAnswer c h hidden roots support) Refused Done
+      (shortCodeRules (eqb (length roots) (c .n) && eqb (length support) (c .n)) c h hidden)
+  unfolding checkAnswer checkFault codeRules shapeRules signatureRules
   check-refuses =
-      refuses Refused Done done-apart same-outcome (codeRules (eqb (length roots) (c .n) && eqb (length support) (c .n)) c h) refl
+      subst (λ (k : ℕ). Refuses (unless-refused k Refused Done) Refused Done (shortCodeRules lent c h hidden))
+      (sym (short-code-fault c h hidden lent)) (refuses Refused Done done-apart same-outcome (shortCodeRules lent c h hidden) refl)
 
 -- `same` has two codes: its number is the lowest that applies to either, "the lowest of both cards"
-module _ (c₁ : Parameters) (h₁ : List ℕ) (c₂ : Parameters) (h₂ : List ℕ) where
+module _ (c₁ : Parameters) (h₁ hidden₁ : List ℕ) (c₂ : Parameters) (h₂ hidden₂ : List ℕ) where
   abbrev rules₁ : List Rule
-  rules₁ = codeRules true c₁ h₁
+  rules₁ = shortCodeRules true c₁ h₁ hidden₁
 
   abbrev rules₂ : List Rule
-  rules₂ = codeRules true c₂ h₂
+  rules₂ = shortCodeRules true c₂ h₂ hidden₂
 
-  pub same-accepts : (Hold (codeRules true c₁ h₁) × Hold (codeRules true c₂ h₂)) ↔ (sameAnswer c₁ h₁ c₂ h₂ ≡ compared (sameCode c₁ h₁ c₂ h₂))
-  unfolding sameAnswer sameFault codeFault lower codeRules shapeRules signatureRules
+  abbrev sameValue : Sameness
+  sameValue = compared (sameCode c₁ h₁ hidden₁ c₂ h₂ hidden₂)
+
+  answer-is : sameAnswer c₁ h₁ hidden₁ c₂ h₂ hidden₂ ≡ unless-refused (lower (fault rules₁) (fault rules₂)) NotCompared sameValue
+  unfolding sameAnswer sameFault
+  answer-is =
+      ap₂ (λ (j k : ℕ). unless-refused (lower j k) NotCompared sameValue)
+      (short-code-fault c₁ h₁ hidden₁ true) (short-code-fault c₂ h₂ hidden₂ true)
+
+  pub same-accepts : (Hold (shortCodeRules true c₁ h₁ hidden₁) × Hold (shortCodeRules true c₂ h₂ hidden₂))
+      ↔ (sameAnswer c₁ h₁ hidden₁ c₂ h₂ hidden₂ ≡ compared (sameCode c₁ h₁ hidden₁ c₂ h₂ hidden₂))
+  unfolding lower codeRules shapeRules signatureRules
   same-accepts = (
-    λ holds. given NotCompared _ (ap₂ lower (fault-none rules₁ (holds .0)) (fault-none rules₂ (holds .1))),
+    λ holds. answer-is ∙ given NotCompared _ (ap₂ lower (fault-none rules₁ (holds .0)) (fault-none rules₂ (holds .1))),
     λ e.
-        let none = value-none NotCompared _ (compared-apart (sameCode c₁ h₁ c₂ h₂)) (lower (fault rules₁) (fault rules₂)) e in
+        let apart = compared-apart (sameCode c₁ h₁ hidden₁ c₂ h₂ hidden₂) in
+        let none = value-none NotCompared _ apart (lower (fault rules₁) (fault rules₂)) (sym answer-is ∙ e) in
         let (p, q) = lowest-none (fault rules₁) (fault rules₂) none in
         (hold rules₁ tt p, hold rules₂ tt q),
   )
 
-  pub same-ends : EndsIn (sameAnswer c₁ h₁ c₂ h₂) NotCompared (compared (sameCode c₁ h₁ c₂ h₂))
+  pub same-ends : EndsIn (sameAnswer c₁ h₁ hidden₁ c₂ h₂ hidden₂) NotCompared (compared (sameCode c₁ h₁ hidden₁ c₂ h₂ hidden₂))
   unfolding sameAnswer
-  same-ends = value-or-refused NotCompared (compared (sameCode c₁ h₁ c₂ h₂)) (sameFault c₁ h₁ c₂ h₂)
+  same-ends = value-or-refused NotCompared (compared (sameCode c₁ h₁ hidden₁ c₂ h₂ hidden₂)) (sameFault c₁ h₁ hidden₁ c₂ h₂ hidden₂)
 
-  pub same-refuses : (k : ℕ) → sameAnswer c₁ h₁ c₂ h₂ ≡ NotCompared k
-      → (Fails k (codeRules true c₁ h₁) ⊎ Fails k (codeRules true c₂ h₂))
-      × HoldBelow k (codeRules true c₁ h₁) × HoldBelow k (codeRules true c₂ h₂)
-  unfolding sameAnswer sameFault codeFault codeRules shapeRules signatureRules
+  pub same-refuses : (k : ℕ) → sameAnswer c₁ h₁ hidden₁ c₂ h₂ hidden₂ ≡ NotCompared k
+      → (Fails k (shortCodeRules true c₁ h₁ hidden₁) ⊎ Fails k (shortCodeRules true c₂ h₂ hidden₂))
+      × HoldBelow k (shortCodeRules true c₁ h₁ hidden₁) × HoldBelow k (shortCodeRules true c₂ h₂ hidden₂)
+  unfolding codeRules shapeRules signatureRules
   same-refuses k e =
-      let (ne, is) = refused-due NotCompared _ (compared-apart (sameCode c₁ h₁ c₂ h₂)) same-sameness _ e in
+      let apart = compared-apart (sameCode c₁ h₁ hidden₁ c₂ h₂ hidden₂) in
+      let (ne, is) = refused-due NotCompared _ apart same-sameness (lower (fault rules₁) (fault rules₂)) (sym answer-is ∙ e) in
       let (one, p, q) = lowest-is (fault rules₁) (fault rules₂) ne in
       subst (λ (i : ℕ). (Fails i rules₁ ⊎ Fails i rules₂) × HoldBelow i rules₁ × HoldBelow i rules₂) is
       (either one, below-fault rules₁ refl _ p, below-fault rules₂ refl _ q)
@@ -249,26 +323,24 @@ module _ (c₁ : Parameters) (h₁ : List ℕ) (c₂ : Parameters) (h₂ : List 
       either (inl (is, ne)) = inl (subst (λ (i : ℕ). Fails i rules₁) (sym is) (lowest rules₁ refl ne .fails))
       either (inr (is, ne)) = inr (subst (λ (i : ℕ). Fails i rules₂) (sym is) (lowest rules₂ refl ne .fails))
 
--- ---- calls on words, at any setting: for the whole code, or for a selection
+-- ---- calls on words, at any setting: for the whole code, or for a selection, without the hidden places
 
--- what comes before the call's own rules: a selection's come after 7, "and before 12"
+-- what comes before the call's own rules: "a length that follows from these marks is tested right after it, as 2"
 abbrev pub settingParts : Parameters → List ℕ → Setting → Bool → Bool → List (List Rule)
-settingParts c h wholeCode others words = codeRules (others && words) c h ∷ []
-settingParts c h (selection blocks shifts) others words = codeRules others c h ∷ selectionRules c blocks shifts words ∷ []
+settingParts c h s others words = markedParts c h (s .choice) (s .hidden) others (isMarked c s) ++ ((2 unless words) ∷ []) ∷ []
 
 module _ (c : Parameters) (h : List ℕ) where
   parts-are : (s : Setting) (others words : Bool) (more : List (List Rule))
       → allRules (settingParts c h s others words ++ more) ≡ settingRules c h s others words ++ allRules more
   unfolding settingRules
-  parts-are wholeCode others words more = refl
-  parts-are (selection blocks shifts) others words more =
-      sym (append-assoc (codeRules others c h) (selectionRules c blocks shifts words) (allRules more))
+  parts-are s others words more = marked-are c h (s .choice) (s .hidden) others (isMarked c s) words more
 
   parts-rise : (s : Setting) (others words : Bool) (more : List (List Rule)) → risingParts more ≡ true
       → risingParts (settingParts c h s others words ++ more) ≡ true
-  unfolding codeRules shapeRules signatureRules selectionRules
-  parts-rise wholeCode others words more r = r
-  parts-rise (selection blocks shifts) others words more r = r
+  parts-rise s others words more r =
+      let marked = markedParts c h (s .choice) (s .hidden) others (isMarked c s) in
+      let rises = marked-rise c h (s .choice) (s .hidden) others (isMarked c s) in
+      rising-both (marked ++ ((2 unless words) ∷ []) ∷ []) more (rising-both marked (((2 unless words) ∷ []) ∷ []) rises refl) r
 
   module _ {A : Type 0} (refused : ℕ → A) (value : A) (apart : (k : ℕ) → refused k ≢ value) (same : (i j : ℕ) → refused i ≡ refused j → i ≡ j) where
     setting-refuses : (s : Setting) (others words : Bool) (more : List (List Rule)) → risingParts more ≡ true
@@ -288,17 +360,17 @@ module _ (c : Parameters) (h : List ℕ) (s : Setting) (out : List ℕ) where
   unfolding rolesAnswer rolesAfter
   roles-unchanged e = refused-leaves NotCounted _ (counted-apart _) (rolesFault c h s out) out _ e
 
-  pub roles-refuses : RefusesInOrder (rolesAnswer c h s out) NotCounted (Count (dimension c h (columnsOf c s)))
-      (settingParts c h s true (eqb (length out) (places c s)) ++ [])
-  unfolding rolesAnswer rolesFault
+  -- the buffer for roles has an entry for each place, as the marks have
+  pub roles-refuses : RefusesInOrder (rolesAnswer c h s out) NotCounted (Count (sentDimension c h (allColumns c (s .choice)) (s .hidden)))
+      (markedParts c h (s .choice) (s .hidden) true (isMarked c s && eqb (length out) (allPlaces c (s .choice))))
+  unfolding rolesAnswer rolesFault rolesRules
   roles-refuses =
-      let rules = settingRules c h s true (eqb (length out) (places c s)) in
-      subst
-      (λ (all : List Rule).
-      RefusesInOrder (unless-refused (fault all) NotCounted (Count (dimension c h (columnsOf c s)))) NotCounted
-      (Count (dimension c h (columnsOf c s))) (settingParts c h s true (eqb (length out) (places c s)) ++ []))
-      (append-nil rules)
-      (setting-refuses c h NotCounted _ (counted-apart _) same-counted s true (eqb (length out) (places c s)) [] refl)
+      let value = Count (sentDimension c h (allColumns c (s .choice)) (s .hidden)) in
+      let full = (isMarked c s && eqb (length out) (allPlaces c (s .choice))) in
+      let parts = markedParts c h (s .choice) (s .hidden) true full in
+      subst (λ (k : ℕ). RefusesInOrder (unless-refused k NotCounted value) NotCounted value parts)
+      (sym (marked-fault c h (s .choice) (s .hidden) true full))
+      (refuses-in-order NotCounted value (counted-apart _) same-counted parts (marked-rise c h (s .choice) (s .hidden) true full))
 
 module _ (c : Parameters) (h : List ℕ) (s : Setting) (word out : List ℕ) where
   pub syndrome-unchanged : {k : ℕ} → syndromeAnswer c h s word out ≡ Refused k → syndromeAfter c h s word out ≡ out
@@ -306,23 +378,23 @@ module _ (c : Parameters) (h : List ℕ) (s : Setting) (word out : List ℕ) whe
   syndrome-unchanged e = refused-leaves Refused Done done-apart (syndromeFault c h s word out) out _ e
 
   pub syndrome-refuses : RefusesInOrder (syndromeAnswer c h s word out) Refused Done
-      (settingParts c h s (eqb (length out) (c .t)) (eqb (length word) (places c s)) ++ bitRules word ∷ [])
+      (settingParts c h s (eqb (length out) (c .t)) (eqb (length word) (places s)) ++ bitRules word ∷ [])
   unfolding syndromeAnswer syndromeFault bitRules
   syndrome-refuses =
-      setting-refuses c h Refused Done done-apart same-outcome s (eqb (length out) (c .t)) (eqb (length word) (places c s)) (bitRules word ∷ []) refl
+      setting-refuses c h Refused Done done-apart same-outcome s (eqb (length out) (c .t)) (eqb (length word) (places s)) (bitRules word ∷ []) refl
 
 module _ (c : Parameters) (h : List ℕ) (s : Setting) (message word : List ℕ) where
   pub encode-unchanged : {k : ℕ} → encodeAnswer c h s message word ≡ Refused k → encodeAfter c h s message word ≡ word
   unfolding encodeAnswer encodeAfter
   encode-unchanged e = refused-leaves Refused Done done-apart (encodeFault c h s message word) word _ e
 
-  -- "a wrong one is then 2, before 8"
+  -- "a wrong one is then 2, before 8": k follows from the marks
   pub encode-refuses : RefusesInOrder (encodeAnswer c h s message word) Refused Done
-      (settingParts c h s true (eqb (length word) (places c s))
+      (settingParts c h s true (eqb (length word) (places s))
       ++ messageRules (dimension c h (columnsOf c s)) (length message) (allBits message) ∷ [])
   unfolding encodeAnswer encodeFault messageRules
   encode-refuses =
-      setting-refuses c h Refused Done done-apart same-outcome s true (eqb (length word) (places c s))
+      setting-refuses c h Refused Done done-apart same-outcome s true (eqb (length word) (places s))
       (messageRules (dimension c h (columnsOf c s)) (length message) (allBits message) ∷ []) refl
 
   pub message-unchanged : {k : ℕ} → messageAnswer c h s word message ≡ Refused k → messageAfter c h s word message ≡ message
@@ -330,11 +402,11 @@ module _ (c : Parameters) (h : List ℕ) (s : Setting) (message word : List ℕ)
   message-unchanged e = refused-leaves Refused Done done-apart (messageFault c h s word message) message _ e
 
   pub message-refuses : RefusesInOrder (messageAnswer c h s word message) Refused Done
-      (settingParts c h s true (eqb (length word) (places c s))
+      (settingParts c h s true (eqb (length word) (places s))
       ++ messageRules (dimension c h (columnsOf c s)) (length message) (allBits word) ∷ [])
   unfolding messageAnswer messageFault messageRules
   message-refuses =
-      setting-refuses c h Refused Done done-apart same-outcome s true (eqb (length word) (places c s))
+      setting-refuses c h Refused Done done-apart same-outcome s true (eqb (length word) (places s))
       (messageRules (dimension c h (columnsOf c s)) (length message) (allBits word) ∷ []) refl
 
 -- ---- repair
@@ -345,37 +417,26 @@ module _ (c : Parameters) (h : List ℕ) (s : Setting) (received repaired : List
   repair-unchanged e = refused-leaves NotRepaired _ (repaired-apart _) (repairFault c h s received repaired) repaired _ e
 
   pub repair-refuses : RefusesInOrder (repairAnswer c h s received repaired) NotRepaired (Repaired (turnedCount c h (columnsOf c s) received))
-      (settingParts c h s true (eqb (length received) (places c s) && eqb (length repaired) (places c s))
+      (settingParts c h s true (eqb (length received) (places s) && eqb (length repaired) (places s))
       ++ wordRules c h (columnsOf c s) received ∷ [])
   unfolding repairAnswer repairFault wordRules
   repair-refuses =
       setting-refuses c h NotRepaired _ (repaired-apart _) same-recovery s true
-      (eqb (length received) (places c s) && eqb (length repaired) (places c s)) (wordRules c h (columnsOf c s) received ∷ []) refl
+      (eqb (length received) (places s) && eqb (length repaired) (places s)) (wordRules c h (columnsOf c s) received ∷ []) refl
 
--- ---- of the whole code, roles, syndrome and repair give the lowest number that applies to any of their rules
+-- ---- of the whole code, roles give the lowest number that applies to any of their rules, as `check` does
 
-module _ (c : Parameters) (h : List ℕ) where
-  pub roles-lowest : (out : List ℕ)
-      → Refuses (rolesAnswer c h wholeCode out) NotCounted (Count (dimension c h (columnsOf c wholeCode))) (codeRules (eqb (length out) (c .n)) c h)
-  unfolding rolesAnswer rolesFault settingRules codeRules shapeRules signatureRules
-  roles-lowest out = refuses NotCounted _ (counted-apart _) same-counted (codeRules (eqb (length out) (c .n)) c h) refl
+pub roles-lowest : (c : Parameters) (h hidden out : List ℕ)
+    → Refuses (rolesAnswer c h (shortCode hidden) out) NotCounted (Count (sentDimension c h (allColumns c wholeCode) hidden))
+    (codeRules (eqb (length hidden) (c .n) && eqb (length out) (c .n)) c h ++ hiddenRules c h wholeCode hidden)
+unfolding rolesAnswer rolesFault rolesRules codeRules shapeRules signatureRules
+roles-lowest c h hidden out =
+    let value = Count (sentDimension c h (allColumns c wholeCode) hidden) in
+    let rules = codeRules (eqb (length hidden) (c .n) && eqb (length out) (c .n)) c h ++ hiddenRules c h wholeCode hidden in
+    subst (λ (k : ℕ). Refuses (unless-refused k NotCounted value) NotCounted value rules)
+    (sym (marked-fault c h wholeCode hidden true (eqb (length hidden) (c .n) && eqb (length out) (c .n)))) (refuses NotCounted value (counted-apart _) same-counted rules refl)
 
-  pub syndrome-lowest : (word out : List ℕ) → Refuses (syndromeAnswer c h wholeCode word out) Refused Done
-      (codeRules (eqb (length out) (c .t) && eqb (length word) (c .n)) c h ++ bitRules word)
-  unfolding syndromeAnswer syndromeFault settingRules codeRules shapeRules signatureRules bitRules
-  syndrome-lowest word out =
-      refuses Refused Done done-apart same-outcome
-      (codeRules (eqb (length out) (c .t) && eqb (length word) (c .n)) c h ++ bitRules word) refl
-
-  pub repair-lowest : (received repaired : List ℕ)
-      → Refuses (repairAnswer c h wholeCode received repaired) NotRepaired (Repaired (turnedCount c h (columnsOf c wholeCode) received))
-      (codeRules (eqb (length received) (c .n) && eqb (length repaired) (c .n)) c h ++ wordRules c h (columnsOf c wholeCode) received)
-  unfolding repairAnswer repairFault settingRules codeRules shapeRules signatureRules wordRules
-  repair-lowest received repaired =
-      refuses NotRepaired _ (repaired-apart _) same-recovery
-      (codeRules (eqb (length received) (c .n) && eqb (length repaired) (c .n)) c h ++ wordRules c h (columnsOf c wholeCode) received) refl
-
--- ---- gear rows: "12 comes after 7 and before 8"
+-- ---- gear rows: "12 comes after 7 and before 8", and after 20
 
 module _ (c : Parameters) (h cols : List ℕ) where
   -- 12 alone, then the others
@@ -393,10 +454,10 @@ module _ (c : Parameters) (h : List ℕ) (s : Setting) (gear lamp : ℕ) (word :
   write-row-unchanged e = refused-leaves Refused Done done-apart (writeFault c h s gear lamp word) word _ e
 
   pub write-row-refuses : RefusesInOrder (writeAnswer c h s gear lamp word) Refused Done
-      (settingParts c h s true (eqb (length word) (places c s)) ++ writeParts c h (columnsOf c s) gear lamp)
+      (settingParts c h s true (eqb (length word) (places s)) ++ writeParts c h (columnsOf c s) gear lamp)
   unfolding writeAnswer writeFault writeRules
   write-row-refuses =
-      setting-refuses c h Refused Done done-apart same-outcome s true (eqb (length word) (places c s)) (writeParts c h (columnsOf c s) gear lamp) refl
+      setting-refuses c h Refused Done done-apart same-outcome s true (eqb (length word) (places s)) (writeParts c h (columnsOf c s) gear lamp) refl
 
 module _ (c : Parameters) (h : List ℕ) (s : Setting) (received repaired : List ℕ) where
   pub read-row-unchanged : {k : ℕ} → readAnswer c h s received repaired ≡ NotRead k → readAfter c h s received repaired ≡ repaired
@@ -404,11 +465,11 @@ module _ (c : Parameters) (h : List ℕ) (s : Setting) (received repaired : List
   read-row-unchanged e = refused-leaves NotRead _ (read-apart _ _) (readFault c h s received repaired) repaired _ e
 
   pub read-row-refuses : RefusesInOrder (readAnswer c h s received repaired) NotRead (rowRead c h (columnsOf c s) received)
-      (settingParts c h s true (eqb (length received) (places c s) && eqb (length repaired) (places c s)) ++ readParts c h (columnsOf c s) received)
+      (settingParts c h s true (eqb (length received) (places s) && eqb (length repaired) (places s)) ++ readParts c h (columnsOf c s) received)
   unfolding readAnswer readFault rowRead readRules wordRules
   read-row-refuses =
       setting-refuses c h NotRead _ (read-apart _ _) same-reading s true
-      (eqb (length received) (places c s) && eqb (length repaired) (places c s)) (readParts c h (columnsOf c s) received) refl
+      (eqb (length received) (places s) && eqb (length repaired) (places s)) (readParts c h (columnsOf c s) received) refl
 
 -- ---- rides: "12 is looked for before the ride starts", then one step after the other, and of a step 8 "goes first where one step has both"
 
@@ -450,23 +511,23 @@ module _ (c : Parameters) (h : List ℕ) (s : Setting) (σ : Steps) (counts : Li
       let S = refused-started c h s σ counts e .1 by-step in (S, after-is S)
 
   pub ride-refuses : RefusesInOrder (rideAnswer c h s σ counts) Refused Done
-      (settingParts c h s (rideLengths σ counts) (marksLong σ (places c s))
-      ++ startRules c h (columnsOf c s) ∷ stepParts (places c s) σ (stepCount σ))
+      (settingParts c h s (rideLengths σ counts) (marksLong σ (places s))
+      ++ startRules c h (columnsOf c s) ∷ stepParts (places s) σ (stepCount σ))
   unfolding rideAnswer rideFault rideRules startRules
   ride-refuses =
-      let steps = stepParts (places c s) σ (stepCount σ) in
+      let steps = stepParts (places s) σ (stepCount σ) in
       let start = startRules c h (columnsOf c s) in
-      let parts = settingParts c h s (rideLengths σ counts) (marksLong σ (places c s)) ++ start ∷ steps in
+      let parts = settingParts c h s (rideLengths σ counts) (marksLong σ (places s)) ++ start ∷ steps in
       subst
       (λ (rules : List Rule).
       RefusesInOrder
-      (unless-refused (fault (settingRules c h s (rideLengths σ counts) (marksLong σ (places c s)) ++ (start ++ rules))) Refused Done) Refused Done
+      (unless-refused (fault (settingRules c h s (rideLengths σ counts) (marksLong σ (places s)) ++ (start ++ rules))) Refused Done) Refused Done
       parts)
-      (step-parts-are (places c s) σ (stepCount σ) ∙ ap (λ (n : ℕ). stepsRules n σ (stepCount σ)) (sym (length-columns c s)))
-      (setting-refuses c h Refused Done done-apart same-outcome s (rideLengths σ counts) (marksLong σ (places c s)) (start ∷ steps)
-      (step-parts-rise (places c s) σ (stepCount σ)))
+      (step-parts-are (places s) σ (stepCount σ) ∙ ap (λ (n : ℕ). stepsRules n σ (stepCount σ)) (sym (length-columns c s)))
+      (setting-refuses c h Refused Done done-apart same-outcome s (rideLengths σ counts) (marksLong σ (places s)) (start ∷ steps)
+      (step-parts-rise (places s) σ (stepCount σ)))
 
--- ---- several senders: 18 and 19 "come after 15 and before 8, 18 first"
+-- ---- several senders: 18 and 19 "come after 15 and before 8, 18 first", and 20 before 18
 
 module _ (c : Parameters) (h : List ℕ) (s : Setting) (d : Dash) where
   pub senders-start-unchanged : (waiting next : List ℕ) {k : ℕ} → sendersAnswer c h s d waiting next ≡ Refused k
@@ -498,10 +559,10 @@ module _ (c : Parameters) (h : List ℕ) (s : Setting) (d : Dash) where
     )
 
     pub senders-offer-refuses : RefusesInOrder (offerAnswer c h s d sender word waiting words) Refused Done
-        (settingParts c h s (eqb (length waiting) (d .senders)) (offerLengths d word words (places c s)) ++ offerParts)
+        (settingParts c h s (eqb (length waiting) (d .senders)) (offerLengths d word words (places s)) ++ offerParts)
     unfolding offerAnswer offerFault dashRules offerRules
     senders-offer-refuses =
-        setting-refuses c h Refused Done done-apart same-outcome s (eqb (length waiting) (d .senders)) (offerLengths d word words (places c s))
+        setting-refuses c h Refused Done done-apart same-outcome s (eqb (length waiting) (d .senders)) (offerLengths d word words (places s))
         offerParts refl
 
   module _ (σ : State) (answers handed : List ℕ) where
@@ -523,10 +584,10 @@ module _ (c : Parameters) (h : List ℕ) (s : Setting) (d : Dash) where
     )
 
     pub senders-round-refuses : RefusesInOrder (roundAnswer c h s d σ answers handed) Refused Done
-        (settingParts c h s (roundLengths d σ answers) (roundWords d σ handed (places c s)) ++ roundParts)
+        (settingParts c h s (roundLengths d σ answers) (roundWords d σ handed (places s)) ++ roundParts)
     unfolding roundAnswer roundFault dashRules stateRules
     senders-round-refuses =
-        setting-refuses c h Refused Done done-apart same-outcome s (roundLengths d σ answers) (roundWords d σ handed (places c s)) roundParts refl
+        setting-refuses c h Refused Done done-apart same-outcome s (roundLengths d σ answers) (roundWords d σ handed (places s)) roundParts refl
 
 -- ---- sheets: 13 "comes first of all"
 

@@ -2,7 +2,8 @@
 -- its dyadic matrix; such a pair then comes back for every offset. Encoding a message gives the one code word that carries it, and reading that word
 -- gives the message. Block products and inverses are those of the full matrices. State this over the field's width".
 --
--- Every law here is for every width m of the table, and what is said of words is said at every setting: of the whole code, and of every selection.
+-- Every law here is for every width m of the table, and what is said of words is said at every setting: of the whole code, and of every selection,
+-- whatever message columns are hidden.
 use mathlib.Core.Path.{_≡_, refl, sym, ap, _∙_, subst}
 use mathlib.Core.Logic.{_≢_, _↔_}
 use mathlib.Core.Bool.{true, false≢true}
@@ -41,38 +42,40 @@ use Rattle.codes.specs.Acceptance.{accepted-done, done-exactly, done-pair, done
 use Rattle.parity.specs.Columns.{dimension, messageOf, encodingOf}
 use Rattle.parity.specs.Encoding.{encoding-carries, encoding-only}
 use Rattle.parity.specs.Word.{syndromeAt, syndromeOf}
-use Rattle.columns.specs.Fits.{Fits}
-use Rattle.columns.specs.Setting.{Setting, places, columnsOf}
-use Rattle.columns.specs.SettingLaws.{setting-leaves}
+use Rattle.shortened.specs.Fits.{Fits}
+use Rattle.shortened.specs.Setting.{Setting, shortCode, places, columnsOf}
+use Rattle.shortened.specs.SettingLaws.{setting-leaves}
 use Rattle.messages.specs.MessageRules.{messageRules}
 use Rattle.words.specs.Answers.{bitRules, syndromeFault, syndromeAnswer, syndromeAfter}
 use Rattle.words.specs.Answers.{encodeFault, encodeAnswer, encodeAfter, messageFault, messageAnswer, messageAfter}
 use Rattle.demands.specs.CodeWords.{CodeWord, code-word-on, code-word}
+use Rattle.demands.specs.Offsets.{checked-alike}
 use Rattle.demands.specs.Zero.{block-inverse-9-exactly}
 
 -- ---- codes
 
 -- "Within 01's limits a signature is accepted exactly if two disjoint sequences of distinct field elements exist whose Cauchy matrix is its dyadic
--- matrix"
-pub accepted-exactly : (c : Parameters) (h roots support : List ℕ) → Limits c h → c .omega < 2 ^ c .m → length roots ≡ c .n → length support ≡ c .n
-    → (checkAnswer c h roots support ≡ Done) ↔ HasCauchy (gf (c .m)) (c .n) (entryOf h)
+-- matrix": with marks that hide message columns only, since check tests the marks too
+pub accepted-exactly : (c : Parameters) (h hidden roots support : List ℕ) → Limits c h → c .omega < 2 ^ c .m → Fits c h (shortCode hidden)
+    → length roots ≡ c .n → length support ≡ c .n → (checkAnswer c h hidden roots support ≡ Done) ↔ HasCauchy (gf (c .m)) (c .n) (entryOf h)
 accepted-exactly = done-exactly
 
 -- "such a pair then comes back for every offset"
-pub pair-for-every-offset : {c : Parameters} {h : List ℕ} → Accepted c h → (ω : ℕ) → ω < 2 ^ c .m
+pub pair-for-every-offset : {c : Parameters} {h hidden : List ℕ} → Accepted c h → Fits c h (shortCode hidden) → (ω : ℕ) → ω < 2 ^ c .m
     → (roots support : List ℕ) → length roots ≡ c .n → length support ≡ c .n
-    → (checkAnswer (withOffset c ω) h roots support ≡ Done)
+    → (checkAnswer (withOffset c ω) h hidden roots support ≡ Done)
     × Cauchy (gf (c .m)) (c .n) (entryOf h)
-    (entryOf (rootsAfter (withOffset c ω) h roots support)) (entryOf (supportAfter (withOffset c ω) h roots support))
-pair-for-every-offset {c} {h} A ω l roots support r s =
-    let done = accepted-done (withOffset c ω) h roots support r s (offset-accepted ω l A) in
-    (done, done-pair (withOffset c ω) h roots support done)
+    (entryOf (rootsAfter (withOffset c ω) h hidden roots support)) (entryOf (supportAfter (withOffset c ω) h hidden roots support))
+pair-for-every-offset {c} {h} {hidden} A F ω l roots support r s =
+    let alike = checked-alike A (offset-accepted ω l A) refl refl refl hidden roots support in
+    let done = sym alike ∙ accepted-done c h hidden roots support r s A F in
+    (done, done-pair (withOffset c ω) h hidden roots support done)
 
 -- 01: "n above q/2 is therefore never accepted"
-pub never-above-half : (c : Parameters) (h roots support : List ℕ) → checkAnswer c h roots support ≡ Done → 2 * c .n ≤ 2 ^ c .m
+pub never-above-half : (c : Parameters) (h hidden roots support : List ℕ) → checkAnswer c h hidden roots support ≡ Done → 2 * c .n ≤ 2 ^ c .m
 never-above-half = done-short
 
--- ---- words: of the whole code, and of every selection
+-- ---- words: of the whole code, and of every selection, without the hidden places
 
 -- what encoding leaves
 pub record Encoded (c : Parameters) (h : List ℕ) (s : Setting) (message word : List ℕ) : Type 0 where
@@ -83,27 +86,27 @@ pub record Encoded (c : Parameters) (h : List ℕ) (s : Setting) (message word :
   -- "the one code word that carries it"
   pub only : (w buffer : List ℕ) → CodeWord c h s w → length buffer ≡ dimension c h (columnsOf c s) → messageAfter c h s w buffer ≡ message → w ≡ word
 
-module _ {c : Parameters} {h : List ℕ} (A : Accepted c h) (s : Setting) (F : Fits c s) where
+module _ {c : Parameters} {h : List ℕ} (A : Accepted c h) (s : Setting) (F : Fits c h s) where
   abbrev k : ℕ
   k = dimension c h (columnsOf c s)
 
   -- taking the message out of a word of bits is not refused
-  message-taken : (w buffer : List ℕ) → length w ≡ places c s → Bits w → length buffer ≡ k
+  pub message-taken : (w buffer : List ℕ) → length w ≡ places s → Bits w → length buffer ≡ k
       → (messageAnswer c h s w buffer ≡ Done) × (messageAfter c h s w buffer ≡ messageOf c h (columnsOf c s) w)
   unfolding messageAnswer messageAfter messageFault messageRules
   message-taken w buffer long bits fits =
       let none =
-      setting-leaves A s F refl (eq-eqb (length w) (places c s) long) (messageRules k (length buffer) (allBits w))
+      setting-leaves A s F refl (eq-eqb (length w) (places s) long) (messageRules k (length buffer) (allBits w))
       ∙ fault-none (messageRules k (length buffer) (allBits w)) (eq-eqb (length buffer) k fits, (bits-are w .1 bits, tt)) in
       (given Refused Done none, given (λ k. buffer) (messageOf c h (columnsOf c s) w) none)
 
   -- "Encoding a message gives the one code word that carries it, and reading that word gives the message."
-  pub encoded : (message word : List ℕ) → length message ≡ dimension c h (columnsOf c s) → Bits message → length word ≡ places c s
+  pub encoded : (message word : List ℕ) → length message ≡ dimension c h (columnsOf c s) → Bits message → length word ≡ places s
       → (encodeAnswer c h s message word ≡ Done) × Encoded c h s message (encodeAfter c h s message word)
   unfolding encodeAnswer encodeAfter encodeFault messageRules
   encoded message word fits bits long =
       let none =
-      setting-leaves A s F refl (eq-eqb (length word) (places c s) long) (messageRules k (length message) (allBits message))
+      setting-leaves A s F refl (eq-eqb (length word) (places s) long) (messageRules k (length message) (allBits message))
       ∙ fault-none (messageRules k (length message) (allBits message)) (eq-eqb (length message) k fits, (bits-are message .1 bits, tt)) in
       (given Refused Done none, subst (Encoded c h s message) (sym (given (λ k. word) (encodingOf c h (columnsOf c s) message) none)) carried)
     where
@@ -124,13 +127,13 @@ module _ {c : Parameters} {h : List ℕ} (A : Accepted c h) (s : Setting) (F : F
           }
 
   -- 01: "Its syndrome is those t sums"; they are all zero exactly if the word is a code word
-  pub zero-syndrome : (word out : List ℕ) → length word ≡ places c s → Bits word → length out ≡ c .t
+  pub zero-syndrome : (word out : List ℕ) → length word ≡ places s → Bits word → length out ≡ c .t
       → (syndromeAnswer c h s word out ≡ Done)
       × (((i : ℕ) → i < c .t → entryOf (syndromeAfter c h s word out) i ≡ 0) ↔ CodeWord c h s word)
   unfolding syndromeAnswer syndromeAfter syndromeFault bitRules syndromeOf
   zero-syndrome word out long bits fits =
       let none =
-      setting-leaves A s F (eq-eqb (length out) (c .t) fits) (eq-eqb (length word) (places c s) long) (bitRules word)
+      setting-leaves A s F (eq-eqb (length out) (c .t) fits) (eq-eqb (length word) (places s) long) (bitRules word)
       ∙ fault-none (bitRules word) (bits-are word .1 bits, tt) in
       let after = given (λ k. out) (syndromeOf c h (columnsOf c s) word) none in (
         given Refused Done none,

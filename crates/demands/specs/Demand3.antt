@@ -3,8 +3,9 @@
 -- count given is the number of those places, and every other code word differs from the word received in more than t places; or the buffer is
 -- unchanged and the number is 10. It is 10 exactly when every code word differs from the word received in more than t places."
 --
--- It is said at every setting s. At `wholeCode` the places are the n columns of the card, and `Fits` asks nothing. At `selection blocks shifts` they
--- are ℓ·t, and `Fits` asks for what 2, 14 and 15 ask for: "Encoding, repair and rows must hold for such words exactly as for whole cards."
+-- It is said at every setting s. At `shortCode hidden` the places of a word are those of the n columns of the card that are sent, and `Fits` asks for
+-- what 20 asks for, and for a mark for each column. At `shortSelection blocks shifts hidden` they are those of the ℓ·t that are sent, and `Fits` asks
+-- for what 2, 14 and 15 ask for too: "Encoding, repair and rows must hold for such words exactly as for whole cards."
 use mathlib.Core.Path.{_≡_, refl, sym, ap, _∙_, subst}
 use mathlib.Core.Logic.{_≢_, _↔_, _⊎_, inl, inr}
 use mathlib.Core.Bool.{Bool, true, false}
@@ -20,9 +21,9 @@ use Rattle.slices.specs.Bits.{IsBits}
 use Rattle.slices.specs.BitLaws.{all-bits}
 use Rattle.params.specs.declared.Parameters.{Parameters}
 use Rattle.params.specs.Code.{Accepted}
-use Rattle.columns.specs.Fits.{Fits}
-use Rattle.columns.specs.Setting.{Setting, places, columnsOf}
-use Rattle.columns.specs.SettingLaws.{setting-leaves, fits-selected, length-columns}
+use Rattle.shortened.specs.Fits.{Fits}
+use Rattle.shortened.specs.Setting.{Setting, places, columnsOf}
+use Rattle.shortened.specs.SettingLaws.{setting-leaves, fits-selected, length-columns}
 use Rattle.nearest.specs.Demand.{repaired-code-word, repaired-within, others-beyond, too-far-exactly}
 use Rattle.nearest.specs.Repair.{distance, isRepairable, repairedOf}
 use Rattle.repair.specs.declared.Recovery.the-variants.{Repaired, Refused}
@@ -34,15 +35,15 @@ pub record Nearest (c : Parameters) (h : List ℕ) (s : Setting) (received word 
   -- "holds a code word"
   pub is-code-word : CodeWord c h s word
   -- "the count given is the number of those places"
-  pub counted : count ≡ distance (places c s) received word
+  pub counted : count ≡ distance (places s) received word
   -- "in at most t places"
   pub within : count ≤ c .t
   -- "every other code word differs from the word received in more than t places"
-  pub others : (w : List ℕ) → CodeWord c h s w → w ≢ word → c .t < distance (places c s) received w
+  pub others : (w : List ℕ) → CodeWord c h s w → w ≢ word → c .t < distance (places s) received w
 
 -- "every code word differs from the word received in more than t places"
 abbrev pub FarFromAll : Parameters → List ℕ → Setting → List ℕ → Type 0
-FarFromAll c h s received = (w : List ℕ) → CodeWord c h s w → c .t < distance (places c s) received w
+FarFromAll c h s received = (w : List ℕ) → CodeWord c h s w → c .t < distance (places s) received w
 
 -- the whole sentence: how repair ends, and when it is refused
 abbrev pub Ends : Parameters → List ℕ → Setting → List ℕ → List ℕ → Type 0
@@ -62,16 +63,16 @@ found c h s received = repairedOf c h (columnsOf c s) received
 abbrev pub turned : Parameters → List ℕ → Setting → List ℕ → ℕ
 turned c h s received = turnedCount c h (columnsOf c s) received
 
-module _ {c : Parameters} {h : List ℕ} (A : Accepted c h) (s : Setting) (F : Fits c s) {received : List ℕ} (bits : IsBits (places c s) received)
-    (buffer : List ℕ) (lent : length buffer ≡ places c s) where
-  counted-on : (w : List ℕ) → c .t < distance (length (columnsOf c s)) received w → c .t < distance (places c s) received w
+module _ {c : Parameters} {h : List ℕ} (A : Accepted c h) (s : Setting) (F : Fits c h s) {received : List ℕ} (bits : IsBits (places s) received)
+    (buffer : List ℕ) (lent : length buffer ≡ places s) where
+  counted-on : (w : List ℕ) → c .t < distance (length (columnsOf c s)) received w → c .t < distance (places s) received w
   counted-on w l = subst (λ (n : ℕ). c .t < distance n received w) (length-columns c s) l
 
   -- of the call's rules only 10 is left
   fault-is : repairFault c h s received buffer ≡ fault ((10 unless repairable c h s received) ∷ [])
   unfolding repairFault wordRules
   fault-is =
-      setting-leaves A s F refl (both-hold (eq-eqb (length received) (places c s) (bits .long)) (eq-eqb (length buffer) (places c s) lent))
+      setting-leaves A s F refl (both-hold (eq-eqb (length received) (places s) (bits .long)) (eq-eqb (length buffer) (places s) lent))
       (wordRules c h (columnsOf c s) received)
       ∙ fault-past 8 _ (all-bits bits) refl
 
@@ -97,7 +98,7 @@ module _ {c : Parameters} {h : List ℕ} (A : Accepted c h) (s : Setting) (F : F
       let after = repaired-ends e .1 in
       record {
         is-code-word = subst (CodeWord c h s) (sym after) (code-word c h s (found c h s received) (repaired-code-word A S on e));
-        counted = ap (λ (n : ℕ). distance n received (found c h s received)) (length-columns c s) ∙ ap (distance (places c s) received) (sym after);
+        counted = ap (λ (n : ℕ). distance n received (found c h s received)) (length-columns c s) ∙ ap (distance (places s) received) (sym after);
         within = repaired-within A S on e;
         others = λ w C other. counted-on w (others-beyond A S on e (code-word-on c h s w C) (λ same. other (same ∙ sym after)));
       }

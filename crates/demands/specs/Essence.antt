@@ -28,6 +28,8 @@ use Rattle.signature.specs.Tests.{inverseAt, signatureRules}
 use Rattle.signature.specs.TestLaws.{conditions-are}
 use Rattle.params.specs.declared.Parameters.{Parameters}
 use Rattle.params.specs.Code.{isRootCount, Accepted}
+use Rattle.shortened.specs.Fits.{Fits}
+use Rattle.shortened.specs.Setting.{shortCode}
 use Rattle.codes.specs.Answers.{checkAnswer}
 use Rattle.codes.specs.Acceptance.{accepted-done}
 use Rattle.essence.specs.Choices.{dependent, Independent, Dependent}
@@ -266,6 +268,7 @@ module _ (m : ℕ) (v out : List ℕ) (e : signatureAnswer m v out ≡ Done) (t 
             (signature-conditions E (converts-exactly m v out .0 e .1));
       })
 
-  pub drawn-checked : (roots support : List ℕ) → length roots ≡ length out → length support ≡ length out
-      → checkAnswer drawn (signatureAfter m v out) roots support ≡ Done
-  drawn-checked roots support r s = accepted-done drawn (signatureAfter m v out) roots support r s drawn-accepted
+  -- with marks that hide message columns only
+  pub drawn-checked : (hidden roots support : List ℕ) → Fits drawn (signatureAfter m v out) (shortCode hidden)
+      → length roots ≡ length out → length support ≡ length out → checkAnswer drawn (signatureAfter m v out) hidden roots support ≡ Done
+  drawn-checked hidden roots support F r s = accepted-done drawn (signatureAfter m v out) hidden roots support r s drawn-accepted F

@@ -10,6 +10,8 @@ use native.Mathlib.Omega.{arith}
 use lib.Dec.{eqb}
 use lib.ListN.{length}
 use lib.Pow.{pow-mono}
+use borrow.Author.Tests.{eqb-true}
+use Rattle.algebra.specs.Flags.{both-true}
 use Rattle.algebra.specs.PlaceLaws.{count-le}
 use Rattle.algebra.specs.Xor.{_⊕_}
 use Rattle.algebra.specs.XorLaws.{⊕-lt}
@@ -35,20 +37,22 @@ use Rattle.formula.specs.Answers.{lentRules, readingRules, formulaRules, formul
 use Rattle.signature.specs.Tests.{signatureRules}
 use Rattle.params.specs.declared.Parameters.{Parameters}
 use Rattle.params.specs.Accepted.{n-short}
-use Rattle.params.specs.Code.{Accepted, shapeRules, codeRules, codeFault}
+use Rattle.params.specs.Code.{Accepted, shapeRules, codeRules}
 use Rattle.essence.specs.Answers.{shapeRules as essenceShapeRules, essenceRules, essenceFault, essenceAnswer}
 use Rattle.essence.specs.Answers.{valueRules, signatureFault, signatureAnswer}
 use Rattle.codes.specs.declared.Sameness.the-variants.{Refused as NotCompared}
-use Rattle.codes.specs.Answers.{checkFault, checkAnswer, lowest, compared, sameFault, sameAnswer}
+use Rattle.codes.specs.Answers.{checkFault, checkAnswer, lowest, compared, cardRules, sameFault, sameAnswer}
 use Rattle.codes.specs.Lowest.{lowest-le}
 use Rattle.codes.specs.Same.{sameCode}
-use Rattle.parity.specs.Columns.{dimension}
-use Rattle.parity.specs.ColumnLaws.{dimension-le}
-use Rattle.columns.specs.Setting.{Setting, Setting.wholeCode, Setting.selection, places, columnsOf, selectionRules, settingRules}
-use Rattle.columns.specs.Fits.{Fits}
-use Rattle.columns.specs.SettingLaws.{setting-accepted, length-columns, places-short, fits-columns}
+use Rattle.parity.specs.Columns.{isMessageColumn, dimension}
+use Rattle.columns.specs.Choice.{Choice, Choice.wholeCode, Choice.selection, allPlaces, allColumns, selectionRules, choiceRules}
+use Rattle.columns.specs.ChoiceLaws.{choice-accepted, all-short}
+use Rattle.shortened.specs.Fits.{Fits}
+use Rattle.shortened.specs.Marks.{isSent, sentDimension, markRules}
+use Rattle.shortened.specs.Setting.{Setting, shortCode, shortSelection, places, columnsOf, isMarked, settingRules}
+use Rattle.shortened.specs.SettingLaws.{setting-accepted, length-columns, places-short, fits-columns}
 use Rattle.messages.specs.MessageRules.{messageRules}
-use Rattle.words.specs.Answers.{bitRules, rolesFault, rolesAnswer, syndromeFault, syndromeAnswer}
+use Rattle.words.specs.Answers.{bitRules, rolesRules, rolesFault, rolesAnswer, syndromeFault, syndromeAnswer}
 use Rattle.words.specs.Answers.{encodeFault, encodeAnswer, messageFault, messageAnswer}
 use Rattle.nearest.specs.Repair.{differs, distance, repairedOf}
 use Rattle.repair.specs.declared.Recovery.the-variants.{Repaired, Refused as NotRepaired}
@@ -79,7 +83,7 @@ use Rattle.demands.specs.Outcomes.{compared-apart, same-sameness}
 
 -- the greatest number of 01's table
 abbrev pub greatestNumber : ℕ
-greatestNumber = 19
+greatestNumber = 20
 
 -- C reads a value as it is, and a refusal as a negative number
 abbrev pub IsValue : ℕ → Type 0
@@ -146,18 +150,31 @@ pub zov-signature : (m : ℕ) (v out : List ℕ) → ToldApart outcomeCode (sign
 unfolding signatureAnswer signatureFault valueRules essenceShapeRules
 zov-signature m v out = outcome-told (valueRules m v (length out)) refl
 
-module _ (c : Parameters) (h : List ℕ) where
-  pub zov-check : (roots support : List ℕ) → ToldApart outcomeCode (checkAnswer c h roots support) Refused Done
-  unfolding checkAnswer checkFault codeFault codeRules shapeRules signatureRules
-  zov-check roots support = outcome-told (codeRules (eqb (length roots) (c .n) && eqb (length support) (c .n)) c h) refl
+-- ---- calls on codes and on words, at any setting: the functions for the whole code and those for a selection
 
--- ---- calls on words, at any setting: the functions for the whole code and those for a selection
+marked-in-table : (c : Parameters) (h : List ℕ) (k : Choice) (hidden : List ℕ) (others full words : Bool) (more : List Rule)
+    → upTo greatestNumber more ≡ true
+    → upTo greatestNumber ((choiceRules c h k others full ++ markRules c h (allColumns c k) hidden words) ++ more) ≡ true
+unfolding choiceRules codeRules shapeRules signatureRules selectionRules markRules
+marked-in-table c h wholeCode hidden others full words more u = u
+marked-in-table c h (selection blocks shifts) hidden others full words more u = u
 
 in-table : (c : Parameters) (h : List ℕ) (s : Setting) (others words : Bool) (more : List Rule) → upTo greatestNumber more ≡ true
     → upTo greatestNumber (settingRules c h s others words ++ more) ≡ true
-unfolding settingRules codeRules shapeRules signatureRules selectionRules
-in-table c h wholeCode others words more u = u
-in-table c h (selection blocks shifts) others words more u = u
+unfolding settingRules
+in-table c h s others words more u = marked-in-table c h (s .choice) (s .hidden) others (isMarked c s) words more u
+
+-- with no rules of its own
+card-in-table : (c : Parameters) (h hidden : List ℕ) (others : Bool) → upTo greatestNumber (settingRules c h (shortCode hidden) others true) ≡ true
+card-in-table c h hidden others =
+    subst (λ (rules : List Rule). upTo greatestNumber rules ≡ true) (append-nil (settingRules c h (shortCode hidden) others true))
+    (in-table c h (shortCode hidden) others true [] refl)
+
+pub zov-check : (c : Parameters) (h hidden roots support : List ℕ) → ToldApart outcomeCode (checkAnswer c h hidden roots support) Refused Done
+unfolding checkAnswer checkFault
+zov-check c h hidden roots support =
+    let lent = eqb (length roots) (c .n) && eqb (length support) (c .n) in
+    outcome-told (settingRules c h (shortCode hidden) lent true) (card-in-table c h hidden lent)
 
 steps-in-table : (n : ℕ) (σ : Steps) (k : ℕ) → upTo greatestNumber (stepsRules n σ k) ≡ true
 unfolding stepsRules rulesAt stepRules
@@ -168,58 +185,72 @@ module _ (c : Parameters) (h : List ℕ) (s : Setting) where
   syndrome-told : (word out : List ℕ) → ToldApart outcomeCode (syndromeAnswer c h s word out) Refused Done
   unfolding syndromeAnswer syndromeFault bitRules
   syndrome-told word out =
-      outcome-told (settingRules c h s (eqb (length out) (c .t)) (eqb (length word) (places c s)) ++ bitRules word)
+      outcome-told (settingRules c h s (eqb (length out) (c .t)) (eqb (length word) (places s)) ++ bitRules word)
       (in-table c h s _ _ (bitRules word) refl)
 
   encode-told : (message word : List ℕ) → ToldApart outcomeCode (encodeAnswer c h s message word) Refused Done
   unfolding encodeAnswer encodeFault messageRules
   encode-told message word =
       let own = messageRules (dimension c h (columnsOf c s)) (length message) (allBits message) in
-      outcome-told (settingRules c h s true (eqb (length word) (places c s)) ++ own) (in-table c h s _ _ own refl)
+      outcome-told (settingRules c h s true (eqb (length word) (places s)) ++ own) (in-table c h s _ _ own refl)
 
   message-told : (word message : List ℕ) → ToldApart outcomeCode (messageAnswer c h s word message) Refused Done
   unfolding messageAnswer messageFault messageRules
   message-told word message =
       let own = messageRules (dimension c h (columnsOf c s)) (length message) (allBits word) in
-      outcome-told (settingRules c h s true (eqb (length word) (places c s)) ++ own) (in-table c h s _ _ own refl)
+      outcome-told (settingRules c h s true (eqb (length word) (places s)) ++ own) (in-table c h s _ _ own refl)
 
   write-row-told : (gear lamp : ℕ) (word : List ℕ) → ToldApart outcomeCode (writeAnswer c h s gear lamp word) Refused Done
   unfolding writeAnswer writeFault writeRules
   write-row-told gear lamp word =
       let own = writeRules c h (columnsOf c s) gear lamp in
-      outcome-told (settingRules c h s true (eqb (length word) (places c s)) ++ own) (in-table c h s _ _ own refl)
+      outcome-told (settingRules c h s true (eqb (length word) (places s)) ++ own) (in-table c h s _ _ own refl)
 
   ride-told : (σ : Steps) (counts : List ℕ) → ToldApart outcomeCode (rideAnswer c h s σ counts) Refused Done
   unfolding rideAnswer rideFault rideRules startRules
   ride-told σ counts =
       let own = rideRules c h (columnsOf c s) σ in
-      outcome-told (settingRules c h s (rideLengths σ counts) (marksLong σ (places c s)) ++ own)
+      outcome-told (settingRules c h s (rideLengths σ counts) (marksLong σ (places s)) ++ own)
       (in-table c h s _ _ own (steps-in-table (length (columnsOf c s)) σ (stepCount σ)))
 
   -- what is no more than the places of a word, of a call that is not refused
-  count-value : (others words : Bool) (more : List Rule) → fault (settingRules c h s others words ++ more) ≡ 0 → {x : ℕ} → x ≤ places c s → IsValue x
+  count-value : (others words : Bool) (more : List Rule) → fault (settingRules c h s others words ++ more) ≡ 0 → {x : ℕ} → x ≤ places s → IsValue x
   count-value others words more none l =
       let (o, w, A, F) = setting-accepted c h s others words (first-holds (settingRules c h s others words) more none) in
       let short = places-short A s F in
       omega arith
 
-  roles-told : (out : List ℕ) → ToldApart countedCode (rolesAnswer c h s out) NotCounted (Count (dimension c h (columnsOf c s)))
-  unfolding rolesAnswer rolesFault
+  -- k is no more than the places, those that are hidden counted
+  roles-value : (out : List ℕ) → rolesFault c h s out ≡ 0 → IsValue (sentDimension c h (allColumns c (s .choice)) (s .hidden))
+  unfolding rolesFault rolesRules sentDimension
+  roles-value out none =
+      let full = (isMarked c s && eqb (length out) (allPlaces c (s .choice))) in
+      let first = first-holds (choiceRules c h (s .choice) true full) (markRules c h (allColumns c (s .choice)) (s .hidden) true) none in
+      let (o, lent, A, F) = choice-accepted c h (s .choice) true full first in
+      let (marked, room) = both-true (eqb (length (s .hidden)) (allPlaces c (s .choice))) (eqb (length out) (allPlaces c (s .choice))) lent in
+      let long : length (s .hidden) ≡ allPlaces c (s .choice) = eqb-true (length (s .hidden)) (allPlaces c (s .choice)) marked in
+      let few = count-le (length (s .hidden)) (λ p. isSent (s .hidden) p && isMessageColumn c h (allColumns c (s .choice)) p) in
+      let short = all-short A (s .choice) F in
+      omega (arith, few, long, short)
+
+  roles-told : (out : List ℕ)
+      → ToldApart countedCode (rolesAnswer c h s out) NotCounted (Count (sentDimension c h (allColumns c (s .choice)) (s .hidden)))
+  unfolding rolesAnswer rolesFault rolesRules
   roles-told out =
-      let words = eqb (length out) (places c s) in
-      let rules = settingRules c h s true words in
-      told-apart countedCode NotCounted (Count (dimension c h (columnsOf c s))) (counted-apart _) same-counted (λ k. refl) (fault rules)
+      let full = (isMarked c s && eqb (length out) (allPlaces c (s .choice))) in
+      let rules = choiceRules c h (s .choice) true full ++ markRules c h (allColumns c (s .choice)) (s .hidden) true in
+      told-apart countedCode NotCounted (Count (sentDimension c h (allColumns c (s .choice)) (s .hidden))) (counted-apart _) same-counted (λ k. refl)
+      (fault rules)
       (fault-up-to greatestNumber rules
-      (subst (λ (all : List Rule). upTo greatestNumber all ≡ true) (append-nil rules) (in-table c h s true words [] refl)))
-      (λ none.
-      count-value true words [] (ap fault (append-nil rules) ∙ none)
-      (subst (λ (k : ℕ). dimension c h (columnsOf c s) ≤ k) (length-columns c s) (dimension-le c h (columnsOf c s))))
+      (subst (λ (all : List Rule). upTo greatestNumber all ≡ true) (append-nil rules)
+      (marked-in-table c h (s .choice) (s .hidden) true full true [] refl)))
+      (roles-value out)
 
   repair-told : (received repaired : List ℕ)
       → ToldApart recoveryCode (repairAnswer c h s received repaired) NotRepaired (Repaired (turnedCount c h (columnsOf c s) received))
   unfolding repairAnswer repairFault wordRules turnedCount distance
   repair-told received repaired =
-      let words = (eqb (length received) (places c s) && eqb (length repaired) (places c s)) in
+      let words = (eqb (length received) (places s) && eqb (length repaired) (places s)) in
       let own = wordRules c h (columnsOf c s) received in
       let rules = settingRules c h s true words ++ own in
       told-apart recoveryCode NotRepaired (Repaired (turnedCount c h (columnsOf c s) received)) (repaired-apart _) same-recovery (λ k. refl)
@@ -241,14 +272,14 @@ module _ (c : Parameters) (h : List ℕ) (s : Setting) where
   unfolding offerAnswer offerFault dashRules offerRules
   senders-offer-told d sender word waiting words =
       let own = dashRules d ++ offerRules d sender word waiting in
-      outcome-told (settingRules c h s (eqb (length waiting) (d .senders)) (offerLengths d word words (places c s)) ++ own)
+      outcome-told (settingRules c h s (eqb (length waiting) (d .senders)) (offerLengths d word words (places s)) ++ own)
       (in-table c h s _ _ own refl)
 
   senders-round-told : (d : Dash) (σ : State) (answers handed : List ℕ) → ToldApart outcomeCode (roundAnswer c h s d σ answers handed) Refused Done
   unfolding roundAnswer roundFault dashRules stateRules
   senders-round-told d σ answers handed =
       let own = roundRules d σ (columnsOf c s) in
-      outcome-told (settingRules c h s (roundLengths d σ answers) (roundWords d σ handed (places c s)) ++ own) (in-table c h s _ _ own refl)
+      outcome-told (settingRules c h s (roundLengths d σ answers) (roundWords d σ handed (places s)) ++ own) (in-table c h s _ _ own refl)
 
   -- a row that is read, and a refusal
   abbrev ReadToldApart : List ℕ → List ℕ → Type 0
@@ -261,7 +292,7 @@ module _ (c : Parameters) (h : List ℕ) (s : Setting) where
   read-row-told received repaired = (
     λ row count e. subst IsValue (ap readingCode (sym e)) (reading-whole c h s received repaired row count e .1),
     λ k e.
-        let words = (eqb (length received) (places c s) && eqb (length repaired) (places c s)) in
+        let words = (eqb (length received) (places s) && eqb (length repaired) (places s)) in
         let own = readRules c h (columnsOf c s) received in
         let rules = settingRules c h s true words ++ own in
         let (ne, is) = refused-due NotRead _ (read-apart _ _) same-reading (fault rules) e in
@@ -270,74 +301,76 @@ module _ (c : Parameters) (h : List ℕ) (s : Setting) where
         (subst (λ (i : ℕ). i ≤ greatestNumber) is (fault-up-to greatestNumber rules (in-table c h s true words own refl)))),
   )
 
-module _ (c : Parameters) (h : List ℕ) where
-  pub zov-roles : (out : List ℕ) → ToldApart countedCode (rolesAnswer c h wholeCode out) NotCounted (Count (dimension c h (columnsOf c wholeCode)))
-  zov-roles = roles-told c h wholeCode
+module _ (c : Parameters) (h hidden : List ℕ) where
+  pub zov-roles : (out : List ℕ)
+      → ToldApart countedCode (rolesAnswer c h (shortCode hidden) out) NotCounted (Count (sentDimension c h (allColumns c wholeCode) hidden))
+  zov-roles = roles-told c h (shortCode hidden)
 
-  pub zov-syndrome : (word out : List ℕ) → ToldApart outcomeCode (syndromeAnswer c h wholeCode word out) Refused Done
-  zov-syndrome = syndrome-told c h wholeCode
+  pub zov-syndrome : (word out : List ℕ) → ToldApart outcomeCode (syndromeAnswer c h (shortCode hidden) word out) Refused Done
+  zov-syndrome = syndrome-told c h (shortCode hidden)
 
-  pub zov-encode : (message word : List ℕ) → ToldApart outcomeCode (encodeAnswer c h wholeCode message word) Refused Done
-  zov-encode = encode-told c h wholeCode
+  pub zov-encode : (message word : List ℕ) → ToldApart outcomeCode (encodeAnswer c h (shortCode hidden) message word) Refused Done
+  zov-encode = encode-told c h (shortCode hidden)
 
-  pub zov-message : (word message : List ℕ) → ToldApart outcomeCode (messageAnswer c h wholeCode word message) Refused Done
-  zov-message = message-told c h wholeCode
+  pub zov-message : (word message : List ℕ) → ToldApart outcomeCode (messageAnswer c h (shortCode hidden) word message) Refused Done
+  zov-message = message-told c h (shortCode hidden)
 
   pub zov-repair : (received repaired : List ℕ)
-      → ToldApart recoveryCode (repairAnswer c h wholeCode received repaired) NotRepaired
-      (Repaired (turnedCount c h (columnsOf c wholeCode) received))
-  zov-repair = repair-told c h wholeCode
+      → ToldApart recoveryCode (repairAnswer c h (shortCode hidden) received repaired) NotRepaired
+      (Repaired (turnedCount c h (columnsOf c (shortCode hidden)) received))
+  zov-repair = repair-told c h (shortCode hidden)
 
-  pub zov-write-row : (gear lamp : ℕ) (word : List ℕ) → ToldApart outcomeCode (writeAnswer c h wholeCode gear lamp word) Refused Done
-  zov-write-row = write-row-told c h wholeCode
+  pub zov-write-row : (gear lamp : ℕ) (word : List ℕ) → ToldApart outcomeCode (writeAnswer c h (shortCode hidden) gear lamp word) Refused Done
+  zov-write-row = write-row-told c h (shortCode hidden)
 
-  pub zov-read-row : (received repaired : List ℕ) → ReadToldApart c h wholeCode received repaired
-  zov-read-row = read-row-told c h wholeCode
+  pub zov-read-row : (received repaired : List ℕ) → ReadToldApart c h (shortCode hidden) received repaired
+  zov-read-row = read-row-told c h (shortCode hidden)
 
-  pub zov-ride : (σ : Steps) (counts : List ℕ) → ToldApart outcomeCode (rideAnswer c h wholeCode σ counts) Refused Done
-  zov-ride = ride-told c h wholeCode
+  pub zov-ride : (σ : Steps) (counts : List ℕ) → ToldApart outcomeCode (rideAnswer c h (shortCode hidden) σ counts) Refused Done
+  zov-ride = ride-told c h (shortCode hidden)
 
-  pub zov-senders-start : (d : Dash) (waiting next : List ℕ) → ToldApart outcomeCode (startAnswer c h wholeCode d waiting next) Refused Done
-  zov-senders-start = senders-start-told c h wholeCode
+  pub zov-senders-start : (d : Dash) (waiting next : List ℕ) → ToldApart outcomeCode (startAnswer c h (shortCode hidden) d waiting next) Refused Done
+  zov-senders-start = senders-start-told c h (shortCode hidden)
 
   pub zov-senders-offer : (d : Dash) (sender : ℕ) (word waiting words : List ℕ)
-      → ToldApart outcomeCode (offerAnswer c h wholeCode d sender word waiting words) Refused Done
-  zov-senders-offer = senders-offer-told c h wholeCode
+      → ToldApart outcomeCode (offerAnswer c h (shortCode hidden) d sender word waiting words) Refused Done
+  zov-senders-offer = senders-offer-told c h (shortCode hidden)
 
   pub zov-senders-round : (d : Dash) (σ : State) (answers handed : List ℕ)
-      → ToldApart outcomeCode (roundAnswer c h wholeCode d σ answers handed) Refused Done
-  zov-senders-round = senders-round-told c h wholeCode
+      → ToldApart outcomeCode (roundAnswer c h (shortCode hidden) d σ answers handed) Refused Done
+  zov-senders-round = senders-round-told c h (shortCode hidden)
 
-  module _ (blocks shifts : List ℕ) where
-    abbrev chosen : Setting
-    chosen = selection blocks shifts
+module _ (c : Parameters) (h blocks shifts hidden : List ℕ) where
+  abbrev chosen : Setting
+  chosen = shortSelection blocks shifts hidden
 
-    pub zov-selection-roles : (out : List ℕ)
-        → ToldApart countedCode (rolesAnswer c h chosen out) NotCounted (Count (dimension c h (columnsOf c chosen)))
-    zov-selection-roles = roles-told c h chosen
+  pub zov-selection-roles : (out : List ℕ)
+      → ToldApart countedCode (rolesAnswer c h chosen out) NotCounted
+      (Count (sentDimension c h (allColumns c (selection blocks shifts)) hidden))
+  zov-selection-roles = roles-told c h chosen
 
-    pub zov-selection-syndrome : (word out : List ℕ) → ToldApart outcomeCode (syndromeAnswer c h chosen word out) Refused Done
-    zov-selection-syndrome = syndrome-told c h chosen
+  pub zov-selection-syndrome : (word out : List ℕ) → ToldApart outcomeCode (syndromeAnswer c h chosen word out) Refused Done
+  zov-selection-syndrome = syndrome-told c h chosen
 
-    pub zov-selection-encode : (message word : List ℕ) → ToldApart outcomeCode (encodeAnswer c h chosen message word) Refused Done
-    zov-selection-encode = encode-told c h chosen
+  pub zov-selection-encode : (message word : List ℕ) → ToldApart outcomeCode (encodeAnswer c h chosen message word) Refused Done
+  zov-selection-encode = encode-told c h chosen
 
-    pub zov-selection-message : (word message : List ℕ) → ToldApart outcomeCode (messageAnswer c h chosen word message) Refused Done
-    zov-selection-message = message-told c h chosen
+  pub zov-selection-message : (word message : List ℕ) → ToldApart outcomeCode (messageAnswer c h chosen word message) Refused Done
+  zov-selection-message = message-told c h chosen
 
-    pub zov-selection-repair : (received repaired : List ℕ)
-        → ToldApart recoveryCode (repairAnswer c h chosen received repaired) NotRepaired (Repaired (turnedCount c h (columnsOf c chosen) received))
-    zov-selection-repair = repair-told c h chosen
+  pub zov-selection-repair : (received repaired : List ℕ)
+      → ToldApart recoveryCode (repairAnswer c h chosen received repaired) NotRepaired (Repaired (turnedCount c h (columnsOf c chosen) received))
+  zov-selection-repair = repair-told c h chosen
 
-    pub zov-selection-write-row : (gear lamp : ℕ) (word : List ℕ) → ToldApart outcomeCode (writeAnswer c h chosen gear lamp word) Refused Done
-    zov-selection-write-row = write-row-told c h chosen
+  pub zov-selection-write-row : (gear lamp : ℕ) (word : List ℕ) → ToldApart outcomeCode (writeAnswer c h chosen gear lamp word) Refused Done
+  zov-selection-write-row = write-row-told c h chosen
 
-    pub zov-selection-read-row : (received repaired : List ℕ) → ReadToldApart c h chosen received repaired
-    zov-selection-read-row = read-row-told c h chosen
+  pub zov-selection-read-row : (received repaired : List ℕ) → ReadToldApart c h chosen received repaired
+  zov-selection-read-row = read-row-told c h chosen
 
 -- ---- answers by sender: what repair answers is never taken for "no word left"
 
-pub recovery-apart : {c : Parameters} {h : List ℕ} → Accepted c h → (s : Setting) → Fits c s → (received : List ℕ)
+pub recovery-apart : {c : Parameters} {h : List ℕ} → Accepted c h → (s : Setting) → Fits c h s → (received : List ℕ)
     → recoveryCode (wordAnswer c h (columnsOf c s) received) ≢ none
 unfolding wordAnswer turnedCount distance wordRules unless-refused
 recovery-apart {c} {h} A s F received =
@@ -414,15 +447,14 @@ unfolding compared
 compared-small true = omega arith
 compared-small false = omega arith
 
-code-in-table : (c : Parameters) (h : List ℕ) → codeFault true c h ≤ greatestNumber
-unfolding codeFault codeRules shapeRules signatureRules
-code-in-table c h = fault-up-to greatestNumber (codeRules true c h) refl
-
-pub zov-same : (c₁ : Parameters) (h₁ : List ℕ) (c₂ : Parameters) (h₂ : List ℕ)
-    → ToldApart samenessCode (sameAnswer c₁ h₁ c₂ h₂) NotCompared (compared (sameCode c₁ h₁ c₂ h₂))
+pub zov-same : (c₁ : Parameters) (h₁ hidden₁ : List ℕ) (c₂ : Parameters) (h₂ hidden₂ : List ℕ)
+    → ToldApart samenessCode (sameAnswer c₁ h₁ hidden₁ c₂ h₂ hidden₂) NotCompared (compared (sameCode c₁ h₁ hidden₁ c₂ h₂ hidden₂))
 unfolding sameAnswer sameFault
-zov-same c₁ h₁ c₂ h₂ =
-    told-apart samenessCode NotCompared (compared (sameCode c₁ h₁ c₂ h₂)) (compared-apart (sameCode c₁ h₁ c₂ h₂)) same-sameness (λ k. refl)
-    (lowest (codeFault true c₁ h₁) (codeFault true c₂ h₂))
-    (lowest-le greatestNumber (codeFault true c₁ h₁) (codeFault true c₂ h₂) (code-in-table c₁ h₁) (code-in-table c₂ h₂))
-    (λ none. compared-small (sameCode c₁ h₁ c₂ h₂))
+zov-same c₁ h₁ hidden₁ c₂ h₂ hidden₂ =
+    let agree = sameCode c₁ h₁ hidden₁ c₂ h₂ hidden₂ in
+    told-apart samenessCode NotCompared (compared agree) (compared-apart agree) same-sameness (λ k. refl)
+    (lowest (fault (cardRules c₁ h₁ hidden₁)) (fault (cardRules c₂ h₂ hidden₂)))
+    (lowest-le greatestNumber (fault (cardRules c₁ h₁ hidden₁)) (fault (cardRules c₂ h₂ hidden₂))
+    (fault-up-to greatestNumber (cardRules c₁ h₁ hidden₁) (card-in-table c₁ h₁ hidden₁ true))
+    (fault-up-to greatestNumber (cardRules c₂ h₂ hidden₂) (card-in-table c₂ h₂ hidden₂ true)))
+    (λ none. compared-small agree)

@@ -22,3 +22,6 @@ pub mod Senders
 pub mod Reached
 pub mod Waiting
 pub mod Sheet
+pub mod ShortWord
+pub mod ShortWords
+pub mod NothingHidden

@@ -1,7 +1,7 @@
 -- States reached from the start by offers and rounds: nothing of the state refuses a round there, and with buffers of their lengths it is made. That
 -- no sender starves is said in `Waiting`.
 --
--- Everything is said at any setting s, whose words have n = `places c s` places; the public calls are at `wholeCode`.
+-- Everything is said at any setting s, whose words have n = `places s` places, those that are sent; the public calls are at `shortCode hidden`.
 use mathlib.Core.Path.{_≡_, refl, sym, ap, ap₂, _∙_, subst}
 use mathlib.Core.Logic.{_≢_}
 use mathlib.Core.Bool.{Bool, true, false, cond, not, _&&_, _||_}
@@ -25,9 +25,9 @@ use Rattle.slices.specs.Bits.{allBits}
 use Rattle.slices.specs.BitLaws.{bits-are}
 use Rattle.params.specs.declared.Parameters.{Parameters}
 use Rattle.params.specs.Code.{Accepted}
-use Rattle.columns.specs.Fits.{Fits}
-use Rattle.columns.specs.Setting.{Setting, places, columnsOf, settingRules}
-use Rattle.columns.specs.SettingLaws.{setting-leaves, setting-fault, length-columns}
+use Rattle.shortened.specs.Fits.{Fits}
+use Rattle.shortened.specs.Setting.{Setting, places, columnsOf, settingRules}
+use Rattle.shortened.specs.SettingLaws.{setting-leaves, setting-fault, length-columns}
 use Rattle.turns.specs.Turns.{nextTurn}
 use Rattle.turns.specs.TurnLaws.{next-below}
 use Rattle.scheduler.specs.declared.Dash.{Dash}
@@ -46,7 +46,7 @@ use Rattle.scheduler.specs.Play.{Event.offer, Event.round, after, Reached, Reac
 
 pub record Sound (c : Parameters) (h : List ℕ) (s : Setting) (d : Dash) (σ : State) : Type 0 where
   pub accepted : Accepted c h
-  pub fits : Fits c s
+  pub fits : Fits c h s
   pub numbers : fault (dashRules d) ≡ 0
   pub waiting-long : length (σ .waiting) ≡ d .senders
   pub next-long : length (σ .next) ≡ 1
@@ -54,7 +54,7 @@ pub record Sound (c : Parameters) (h : List ℕ) (s : Setting) (d : Dash) (σ : 
   pub marks : (p : ℕ) → p < d .senders → entryOf (σ .waiting) p < 2
   -- a word that waits was offered: there is room for it, and it is of bits
   pub words : (p : ℕ) → p < d .senders → entryOf (σ .waiting) p ≡ 1
-      → (length (σ .words) ≡ d .senders * places c s) × (allBits (wordAt (places c s) σ p) ≡ true)
+      → (length (σ .words) ≡ d .senders * places s) × (allBits (wordAt (places s) σ p) ≡ true)
 
 -- ---- the round's lists, one step unfolded
 
@@ -137,9 +137,9 @@ module _ (c : Parameters) (h : List ℕ) (s : Setting) (d : Dash) where
 
           bits : OfferMade c h s d sender word (σ .waiting) (σ .words) → (p : ℕ) → p < d .senders
               → entryOf (offerWaiting c h s d sender word (σ .waiting) (σ .words)) p ≡ 1 → Dec (p ≡ sender)
-              → allBits (part (places c s) (offerWords c h s d sender word (σ .waiting) (σ .words)) p) ≡ true
+              → allBits (part (places s) (offerWords c h s d sender word (σ .waiting) (σ .words)) p) ≡ true
           bits O p l e (yes same) =
-              ap (λ (q : ℕ). allBits (part (places c s) (offerWords c h s d sender word (σ .waiting) (σ .words)) q)) same
+              ap (λ (q : ℕ). allBits (part (places s) (offerWords c h s d sender word (σ .waiting) (σ .words)) q)) same
               ∙ ap allBits (offered-word O) ∙ O .bits
           bits O p l e (no ne) = ap allBits (kept-word O p ne l) ∙ T .words p l (sym (kept-mark O p ne) ∙ e) .1
 
@@ -221,25 +221,25 @@ module _ (c : Parameters) (h : List ℕ) (s : Setting) (d : Dash) where
             ap (λ (b : Bool). not b || allBits (part (length (columnsOf c s)) (σ .words) p)) (ne-eqb (entryOf (σ .waiting) p) 1 ne)
 
     module _ (answers handed : List ℕ) where
-      by-lengths : roundFault c h s d σ answers handed ≡ cond (roundLengths d σ answers && roundWords d σ handed (places c s)) 0 2
+      by-lengths : roundFault c h s d σ answers handed ≡ cond (roundLengths d σ answers && roundWords d σ handed (places s)) 0 2
       unfolding roundFault
-      by-lengths = decided (roundLengths d σ answers && roundWords d σ handed (places c s)) refl
+      by-lengths = decided (roundLengths d σ answers && roundWords d σ handed (places s)) refl
         where
-          first : fault (settingRules c h s (roundLengths d σ answers) (roundWords d σ handed (places c s)))
-              ≡ cond (roundLengths d σ answers && roundWords d σ handed (places c s)) 0 2
-          first = setting-fault (T .accepted) s (T .fits) (roundLengths d σ answers) (roundWords d σ handed (places c s))
+          first : fault (settingRules c h s (roundLengths d σ answers) (roundWords d σ handed (places s)))
+              ≡ cond (roundLengths d σ answers && roundWords d σ handed (places s)) 0 2
+          first = setting-fault (T .accepted) s (T .fits) (roundLengths d σ answers) (roundWords d σ handed (places s))
 
-          decided : (b : Bool) → (roundLengths d σ answers && roundWords d σ handed (places c s)) ≡ b
-              → fault (settingRules c h s (roundLengths d σ answers) (roundWords d σ handed (places c s)) ++ roundRules d σ (columnsOf c s))
-              ≡ cond (roundLengths d σ answers && roundWords d σ handed (places c s)) 0 2
+          decided : (b : Bool) → (roundLengths d σ answers && roundWords d σ handed (places s)) ≡ b
+              → fault (settingRules c h s (roundLengths d σ answers) (roundWords d σ handed (places s)) ++ roundRules d σ (columnsOf c s))
+              ≡ cond (roundLengths d σ answers && roundWords d σ handed (places s)) 0 2
           decided true e =
-              let (o, w) = both-true (roundLengths d σ answers) (roundWords d σ handed (places c s)) e in
+              let (o, w) = both-true (roundLengths d σ answers) (roundWords d σ handed (places s)) e in
               setting-leaves (T .accepted) s (T .fits) o w (roundRules d σ (columnsOf c s)) ∙ state-passes
               ∙ sym (ap (λ (b : Bool). cond b 0 2) e)
           decided false e =
-              let two : fault (settingRules c h s (roundLengths d σ answers) (roundWords d σ handed (places c s))) ≡ 2 =
+              let two : fault (settingRules c h s (roundLengths d σ answers) (roundWords d σ handed (places s))) ≡ 2 =
               first ∙ ap (λ (b : Bool). cond b 0 2) e in
-              fault-first (settingRules c h s (roundLengths d σ answers) (roundWords d σ handed (places c s))) (roundRules d σ (columnsOf c s))
+              fault-first (settingRules c h s (roundLengths d σ answers) (roundWords d σ handed (places s))) (roundRules d σ (columnsOf c s))
               (λ z. some (sym two ∙ z)) ∙ two ∙ sym (ap (λ (b : Bool). cond b 0 2) e)
             where
               some : _≡_ {A = ℕ} 2 0 → ⊥
@@ -253,7 +253,7 @@ module _ (c : Parameters) (h : List ℕ) (s : Setting) (d : Dash) (σ : State) (
   unfolding roundAnswer
   refused-by-lengths-alone {k} e =
       let (ne, is) = refused-due Refused Done done-apart same-outcome (roundFault c h s d σ answers handed) e in
-      two (roundLengths d σ answers && roundWords d σ handed (places c s)) (sym is ∙ by-lengths c h s d σ (sound c h s d σ R) answers handed)
+      two (roundLengths d σ answers && roundWords d σ handed (places s)) (sym is ∙ by-lengths c h s d σ (sound c h s d σ R) answers handed)
       (λ z. ne (is ∙ z))
     where
       two : (b : Bool) → k ≡ cond b 0 2 → k ≢ 0 → k ≡ 2
@@ -261,13 +261,13 @@ module _ (c : Parameters) (h : List ℕ) (s : Setting) (d : Dash) (σ : State) (
       two false e ne = e
 
   -- and with buffers of their lengths the round is made
-  pub round-is-made : length (σ .words) ≡ d .senders * places c s → length answers ≡ d .senders → length handed ≡ d .senders * places c s
+  pub round-is-made : length (σ .words) ≡ d .senders * places s → length answers ≡ d .senders → length handed ≡ d .senders * places s
       → roundAnswer c h s d σ answers handed ≡ Done
   unfolding roundAnswer
   round-is-made words told room =
       let T = sound c h s d σ R in
       let (o, w) =
-      lengths-fit d (places c s) σ answers handed
+      lengths-fit d (places s) σ answers handed
       (record { waiting-long = T .waiting-long; words-long = words; next-long = T .next-long; answers-long = told; handed-long = room }) in
       given Refused Done
       (by-lengths c h s d σ T answers handed ∙ ap (λ (b : Bool). cond b 0 2) (ap₂ (λ (x y : Bool). x && y) o w))

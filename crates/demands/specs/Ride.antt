@@ -1,7 +1,7 @@
 -- Rides: when one starts, how it ends, and what its four counts are.
 --
--- Everything is said at any setting s, whose words have n = `places c s` places; the public call is at `wholeCode`. How a step writes and reads its
--- row is said by the calls on rows (`as-the-calls`).
+-- Everything is said at any setting s, whose words have n = `places s` places, those that are sent; the public call is at `shortCode hidden`. How a
+-- step writes and reads its row is said by the calls on rows (`as-the-calls`).
 use mathlib.Core.Path.{_≡_, refl, sym, ap, ap₂, _∙_, subst}
 use mathlib.Core.Logic.{_≢_, _↔_, _⊎_, inl, inr}
 use mathlib.Core.Bool.{Bool, true, false, cond, _&&_, false≢true}
@@ -28,9 +28,11 @@ use Rattle.params.specs.declared.Parameters.{Parameters}
 use Rattle.params.specs.Code.{Accepted, shapeRules, codeRules}
 use Rattle.signature.specs.Tests.{signatureRules}
 use Rattle.parity.specs.Columns.{dimension}
-use Rattle.columns.specs.Fits.{Fits}
-use Rattle.columns.specs.Setting.{Setting, Setting.wholeCode, Setting.selection, places, columnsOf, selectionRules, settingRules}
-use Rattle.columns.specs.SettingLaws.{setting-numbered, setting-accepted, setting-leaves, setting-fault, length-columns}
+use Rattle.columns.specs.Choice.{Choice, Choice.wholeCode, Choice.selection, selectionRules, choiceRules}
+use Rattle.shortened.specs.Fits.{Fits}
+use Rattle.shortened.specs.Marks.{markRules}
+use Rattle.shortened.specs.Setting.{Setting, shortened, places, columnsOf, settingRules}
+use Rattle.shortened.specs.SettingLaws.{setting-numbered, setting-accepted, setting-leaves, setting-fault, length-columns}
 use Rattle.nearest.specs.Repair.{distance}
 use Rattle.nearest.specs.Search.{distance-comm}
 use Rattle.nearest.specs.Turned.{turned}
@@ -113,17 +115,17 @@ ten-or-eleven false b e ne = inl (sym e)
 
 -- ---- when a ride starts
 
--- an accepted code, and room for a row, since "12 is looked for before the ride starts"; beside it, "a list of at most 1,000 steps: gear, lamp, and a
--- word of n bits" and "a lent buffer of four", which are `LentSteps`
+-- an accepted code, a setting that fits it, and room for a row, since "12 is looked for before the ride starts"; beside it, "a list of at most 1,000
+-- steps: gear, lamp, and a word of n bits" and "a lent buffer of four", which are `LentSteps`
 pub record Started (c : Parameters) (h : List ℕ) (s : Setting) (σ : Steps) (counts : List ℕ) : Type 0 where
   pub accepted : Accepted c h
-  pub fits : Fits c s
-  pub lent : LentSteps (places c s) σ counts
+  pub fits : Fits c h s
+  pub lent : LentSteps (places s) σ counts
   pub wide : rowBits ≤ dimension c h (columnsOf c s)
 
 module _ (c : Parameters) (h : List ℕ) (s : Setting) (σ : Steps) (counts : List ℕ) where
   abbrev before : List Rule
-  before = settingRules c h s (rideLengths σ counts) (marksLong σ (places c s))
+  before = settingRules c h s (rideLengths σ counts) (marksLong σ (places s))
 
   abbrev start : List Rule
   start = startRules c h (columnsOf c s)
@@ -136,16 +138,16 @@ module _ (c : Parameters) (h : List ℕ) (s : Setting) (σ : Steps) (counts : Li
   starts-exactly = (
     λ none.
         let (lists, marks, A, F) =
-        setting-accepted c h s (rideLengths σ counts) (marksLong σ (places c s)) (first-holds before start none) in
+        setting-accepted c h s (rideLengths σ counts) (marksLong σ (places s)) (first-holds before start none) in
         let room = hold start tt (sym (setting-leaves A s F lists marks start) ∙ none) in
         record {
           accepted = A;
           fits = F;
-          lent = lent-exactly (places c s) σ counts .0 (both-hold lists marks);
+          lent = lent-exactly (places s) σ counts .0 (both-hold lists marks);
           wide = leb-true rowBits (dimension c h (columnsOf c s)) (room .0);
         },
     λ S.
-        let (lists, marks) = lent-passes (places c s) σ counts (S .lent) in
+        let (lists, marks) = lent-passes (places s) σ counts (S .lent) in
         setting-leaves (S .accepted) s (S .fits) lists marks start
         ∙ fault-none start (le-leb rowBits (dimension c h (columnsOf c s)) (S .wide), tt),
   )
@@ -155,10 +157,10 @@ module _ (c : Parameters) (h : List ℕ) (s : Setting) (σ : Steps) (counts : Li
   fault-splits = ap fault (sym (append-assoc before start steps))
 
   -- past the start there are the steps
-  started-fault : startFault c h s σ counts ≡ 0 → rideFault c h s σ counts ≡ fault (stepsRules (places c s) σ (stepCount σ))
+  started-fault : startFault c h s σ counts ≡ 0 → rideFault c h s σ counts ≡ fault (stepsRules (places s) σ (stepCount σ))
   unfolding startFault startRules
   started-fault none =
-      let are = numbered-both before start (setting-numbered c h s (rideLengths σ counts) (marksLong σ (places c s))) tt in
+      let are = numbered-both before start (setting-numbered c h s (rideLengths σ counts) (marksLong σ (places s))) tt in
       fault-splits ∙ fault-rest (before ++ start) steps are none ∙ ap (λ (n : ℕ). fault (stepsRules n σ (stepCount σ))) (length-columns c s)
 
   -- what refuses the start refuses the ride, and the buffer is left as it was
@@ -171,30 +173,34 @@ module _ (c : Parameters) (h : List ℕ) (s : Setting) (σ : Steps) (counts : Li
   )
 
   -- not by 8 or 11
-  start-lacks : (s : Setting) (others words : Bool)
-      → (lacks 8 (settingRules c h s others words ++ start) ≡ true) × (lacks 11 (settingRules c h s others words ++ start) ≡ true)
-  unfolding settingRules codeRules shapeRules signatureRules selectionRules startRules
-  start-lacks wholeCode others words = (refl, refl)
-  start-lacks (selection blocks shifts) others words = (refl, refl)
+  start-lacks : (k : Choice) (hidden : List ℕ) (others words : Bool)
+      → (lacks 8 (settingRules c h (shortened k hidden) others words ++ start) ≡ true)
+      × (lacks 11 (settingRules c h (shortened k hidden) others words ++ start) ≡ true)
+  unfolding settingRules choiceRules codeRules shapeRules signatureRules selectionRules markRules startRules
+  start-lacks wholeCode hidden others words = (refl, refl)
+  start-lacks (selection blocks shifts) hidden others words = (refl, refl)
 
   start-other : {k : ℕ} → (k ≡ 8) ⊎ (k ≡ 11) → startFault c h s σ counts ≢ k
   unfolding startFault
   start-other (inl z) e =
-      fault-lacks 8 (before ++ start) (λ z. omega arith) (start-lacks s (rideLengths σ counts) (marksLong σ (places c s)) .0) (e ∙ z)
+      fault-lacks 8 (before ++ start) (λ z. omega arith)
+      (start-lacks (s .choice) (s .hidden) (rideLengths σ counts) (marksLong σ (places s)) .0) (e ∙ z)
   start-other (inr z) e =
-      fault-lacks 11 (before ++ start) (λ z. omega arith) (start-lacks s (rideLengths σ counts) (marksLong σ (places c s)) .1) (e ∙ z)
+      fault-lacks 11 (before ++ start) (λ z. omega arith)
+      (start-lacks (s .choice) (s .hidden) (rideLengths σ counts) (marksLong σ (places s)) .1) (e ∙ z)
 
-  -- ---- of an accepted code: "A longer list, or marks of another length, is 2, and 12 is looked for before the ride starts."
+  -- ---- of an accepted code, at a setting that fits it: "A longer list, or marks of another length, is 2, and 12 is looked for before the ride
+  -- starts."
 
   abbrev pub WrongLengths : Type 0
-  WrongLengths = (rideAnswer c h s σ counts ≡ Refused 2) × (LentSteps (places c s) σ counts → ⊥)
+  WrongLengths = (rideAnswer c h s σ counts ≡ Refused 2) × (LentSteps (places s) σ counts → ⊥)
 
   abbrev pub NoRoom : Type 0
-  NoRoom = (rideAnswer c h s σ counts ≡ Refused 12) × LentSteps (places c s) σ counts × (dimension c h (columnsOf c s) < rowBits)
+  NoRoom = (rideAnswer c h s σ counts ≡ Refused 12) × LentSteps (places s) σ counts × (dimension c h (columnsOf c s) < rowBits)
 
-  pub begins : Accepted c h → Fits c s → WrongLengths ⊎ NoRoom ⊎ Started c h s σ counts
+  pub begins : Accepted c h → Fits c h s → WrongLengths ⊎ NoRoom ⊎ Started c h s σ counts
   unfolding startFault startRules
-  begins A F = decided (rideLengths σ counts && marksLong σ (places c s)) (leb rowBits (dimension c h (columnsOf c s))) refl refl
+  begins A F = decided (rideLengths σ counts && marksLong σ (places s)) (leb rowBits (dimension c h (columnsOf c s))) refl refl
     where
       refused-by : {k : ℕ} → startFault c h s σ counts ≡ k → k ≢ 0 → rideAnswer c h s σ counts ≡ Refused k
       refused-by e ne = unstarted (λ z. ne (sym e ∙ z)) .0 ∙ ap Refused e
@@ -202,18 +208,18 @@ module _ (c : Parameters) (h : List ℕ) (s : Setting) (σ : Steps) (counts : Li
       not-none : _≡_ {A = ℕ} 2 0 → ⊥
       not-none z = omega arith
 
-      decided : (b w : Bool) → (rideLengths σ counts && marksLong σ (places c s)) ≡ b → leb rowBits (dimension c h (columnsOf c s)) ≡ w
+      decided : (b w : Bool) → (rideLengths σ counts && marksLong σ (places s)) ≡ b → leb rowBits (dimension c h (columnsOf c s)) ≡ w
           → WrongLengths ⊎ NoRoom ⊎ Started c h s σ counts
       decided true true e q =
           inr (inr (record {
             accepted = A;
             fits = F;
-            lent = lent-exactly (places c s) σ counts .0 e;
+            lent = lent-exactly (places s) σ counts .0 e;
             wide = leb-true rowBits (dimension c h (columnsOf c s)) q;
           }))
       decided true false e q =
-          let L = lent-exactly (places c s) σ counts .0 e in
-          let (lists, marks) = lent-passes (places c s) σ counts L in
+          let L = lent-exactly (places s) σ counts .0 e in
+          let (lists, marks) = lent-passes (places s) σ counts L in
           inr (inl (
             refused-by (setting-leaves A s F lists marks start ∙ fault-here 12 [] q) (λ z. omega arith),
             L,
@@ -221,17 +227,17 @@ module _ (c : Parameters) (h : List ℕ) (s : Setting) (σ : Steps) (counts : Li
           ))
       decided false w e q =
           let two : fault before ≡ 2 =
-          setting-fault A s F (rideLengths σ counts) (marksLong σ (places c s)) ∙ ap (λ (b : Bool). cond b 0 2) e in
+          setting-fault A s F (rideLengths σ counts) (marksLong σ (places s)) ∙ ap (λ (b : Bool). cond b 0 2) e in
           inl (
             refused-by (fault-first before start (λ z. not-none (sym two ∙ z)) ∙ two) not-none,
-            λ L. false≢true (sym e ∙ lent-exactly (places c s) σ counts .1 L),
+            λ L. false≢true (sym e ∙ lent-exactly (places s) σ counts .1 L),
           )
 
 -- ---- a ride that has started
 
 module _ {c : Parameters} {h : List ℕ} {s : Setting} {σ : Steps} {counts : List ℕ} (S : Started c h s σ counts) where
   abbrev n : ℕ
-  n = places c s
+  n = places s
 
   abbrev answer : Outcome
   answer = rideAnswer c h s σ counts

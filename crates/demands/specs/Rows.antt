@@ -20,9 +20,9 @@ use Rattle.slices.specs.BitLaws.{all-bits}
 use Rattle.params.specs.declared.Parameters.{Parameters}
 use Rattle.params.specs.Code.{Accepted}
 use Rattle.parity.specs.Columns.{isMessageColumn, dimension, messageOf}
-use Rattle.columns.specs.Fits.{Fits}
-use Rattle.columns.specs.Setting.{Setting, places, columnsOf}
-use Rattle.columns.specs.SettingLaws.{setting-leaves, fits-selected}
+use Rattle.shortened.specs.Fits.{Fits}
+use Rattle.shortened.specs.Setting.{Setting, places, columnsOf}
+use Rattle.shortened.specs.SettingLaws.{setting-leaves, fits-selected}
 use Rattle.nearest.specs.Demand.{repaired-code-word}
 use Rattle.nearest.specs.Repair.{distance, isRepairable, repairedOf}
 use Rattle.repair.specs.declared.Recovery.the-variants.{Repaired}
@@ -40,15 +40,15 @@ use Rattle.demands.specs.Demand3.{repaired-ends, refused-ends}
 same-count : (a b : ℕ) → Repaired a ≡ Repaired b → a ≡ b
 same-count a b e = cc
 
--- an accepted code, or any selection of it, with room for a row
-module _ {c : Parameters} {h : List ℕ} (A : Accepted c h) (s : Setting) (F : Fits c s) (wide : rowBits ≤ dimension c h (columnsOf c s)) where
+-- an accepted code, or any selection of it, whatever message columns are hidden, with room for a row
+module _ {c : Parameters} {h : List ℕ} (A : Accepted c h) (s : Setting) (F : Fits c h s) (wide : rowBits ≤ dimension c h (columnsOf c s)) where
   -- A row that is allowed is written, and what is received with at most t bits turned is read as that row, with the number of turned bits; the buffer
   -- then holds what was written.
-  pub written-is-read : (gear lamp : ℕ) → isRow gear lamp ≡ true → (word : List ℕ) → length word ≡ places c s
+  pub written-is-read : (gear lamp : ℕ) → isRow gear lamp ≡ true → (word : List ℕ) → length word ≡ places s
       → (writeAnswer c h s gear lamp word ≡ Done)
-      × ((received repaired : List ℕ) → IsBits (places c s) received → length repaired ≡ places c s
-      → distance (places c s) received (writeAfter c h s gear lamp word) ≤ c .t
-      → (readAnswer c h s received repaired ≡ Read (rowOf gear lamp) (distance (places c s) received (writeAfter c h s gear lamp word)))
+      × ((received repaired : List ℕ) → IsBits (places s) received → length repaired ≡ places s
+      → distance (places s) received (writeAfter c h s gear lamp word) ≤ c .t
+      → (readAnswer c h s received repaired ≡ Read (rowOf gear lamp) (distance (places s) received (writeAfter c h s gear lamp word)))
       × (readAfter c h s received repaired ≡ writeAfter c h s gear lamp word))
   written-is-read gear lamp allowed word lent = (
     row-written A s F wide gear lamp allowed word lent,
@@ -59,7 +59,7 @@ module _ {c : Parameters} {h : List ℕ} (A : Accepted c h) (s : Setting) (F : F
   )
 
   -- "green is allowed with 0 and with 7. Dark and amber still go with all": these rows are written, and any other gear and lamp are 11.
-  pub written-exactly : (gear lamp : ℕ) (word : List ℕ) → length word ≡ places c s
+  pub written-exactly : (gear lamp : ℕ) (word : List ℕ) → length word ≡ places s
       → ((writeAnswer c h s gear lamp word ≡ Done) ↔ Allowed gear lamp)
       × ((writeAnswer c h s gear lamp word ≡ NotWritten 11) ↔ (Allowed gear lamp → ⊥))
   unfolding writeAnswer writeFault writeRules
@@ -67,7 +67,7 @@ module _ {c : Parameters} {h : List ℕ} (A : Accepted c h) (s : Setting) (F : F
     where
       past : writeFault c h s gear lamp word ≡ fault ((11 unless isRow gear lamp) ∷ [])
       past =
-          setting-leaves A s F refl (eq-eqb (length word) (places c s) lent) (writeRules c h (columnsOf c s) gear lamp)
+          setting-leaves A s F refl (eq-eqb (length word) (places s) lent) (writeRules c h (columnsOf c s) gear lamp)
           ∙ fault-past 12 _ (le-leb rowBits (dimension c h (columnsOf c s)) wide) refl
 
       decided : (b : Bool) → isRow gear lamp ≡ b
@@ -83,13 +83,13 @@ module _ {c : Parameters} {h : List ℕ} (A : Accepted c h) (s : Setting) (F : F
           let none : Allowed gear lamp → ⊥ = λ r. false≢true (sym e ∙ row-exactly gear lamp .1 r) in
           ((λ done. absurd (done-apart 11 (sym refused ∙ done)), λ r. absurd (none r)), (λ n. none, λ n. refused))
 
-  module _ {received : List ℕ} (bits : IsBits (places c s) received) (repaired : List ℕ) (lent : length repaired ≡ places c s) where
+  module _ {received : List ℕ} (bits : IsBits (places s) received) (repaired : List ℕ) (lent : length repaired ≡ places s) where
     -- past 12 and 8 there is 10, and then 11
     pub fault-is : readFault c h s received repaired
         ≡ fault ((10 unless isRepairable c h (columnsOf c s) received) ∷ (11 unless isRowMessage (carried c h (columnsOf c s) received)) ∷ [])
     unfolding readFault readRules wordRules
     fault-is =
-        setting-leaves A s F refl (both-hold (eq-eqb (length received) (places c s) (bits .long)) (eq-eqb (length repaired) (places c s) lent))
+        setting-leaves A s F refl (both-hold (eq-eqb (length received) (places s) (bits .long)) (eq-eqb (length repaired) (places s) lent))
         (readRules c h (columnsOf c s) received)
         ∙ fault-past 12 _ (le-leb rowBits (dimension c h (columnsOf c s)) wide) (fault-past 8 _ (all-bits bits) refl)
 

@@ -1,13 +1,15 @@
--- When no call on words, no ride and no dash with several senders tells two codes apart, each at a setting.
+-- When no call on words, no ride and no dash with several senders tells two codes apart, each at a setting, where the same places are hidden.
 --
 -- The calls depend on the code and on the setting by the rules that are looked at before the call's own, by the number of roots, which is the length
--- of a syndrome, and by the parity check matrix. Where these are the same, the calls answer alike.
+-- of a syndrome, by the marks of hidden places, and by the parity check matrix. Where these are the same, the calls answer alike.
 use mathlib.Core.Path.{_≡_, refl, sym, ap, ap₂, _∙_, fun-ext}
 use mathlib.Core.Bool.{Bool, true, cond, not, _&&_, _||_}
 use mathlib.Core.List.{List, [], _∷_, _++_}
 use Prim.Native.Nat.{ℕ}
 use lib.Dec.{eqb, leb}
 use lib.ListN.{length, set, replicate}
+use borrow.Author.Tests.{eqb-true}
+use Rattle.algebra.specs.Flags.{both-true}
 use Rattle.algebra.specs.Lists.{entryOf}
 use Rattle.algebra.specs.Parts.{part, withPart, joined}
 use Rattle.algebra.specs.Places.{count}
@@ -22,11 +24,15 @@ use Rattle.parity.specs.Columns.{rolesOf, dimension, messageOf, encodingOf}
 use Rattle.parity.specs.SameMatrix.{SameMatrix}
 use Rattle.parity.specs.SameMatrixLaws.{same-syndrome, same-code-words, same-roles, same-dimension, same-messages, same-encoding}
 use Rattle.parity.specs.Word.{syndromeOf, isCodeWord}
-use Rattle.columns.specs.Fits.{Fits}
-use Rattle.columns.specs.Setting.{Setting, places, columnsOf, settingRules}
-use Rattle.columns.specs.SettingLaws.{setting-numbered, setting-accepted, length-columns}
+use Rattle.columns.specs.Choice.{Choice, allPlaces, allColumns, choiceRules}
+use Rattle.columns.specs.ChoiceLaws.{choice-numbered, choice-accepted, length-all}
+use Rattle.columns.specs.Fits.{ChoiceFits}
+use Rattle.shortened.specs.Marks.{sentDimension, markRules}
+use Rattle.shortened.specs.Setting.{Setting, shortened, places, columnsOf, settingRules}
+use Rattle.shortened.specs.SettingLaws.{setting-numbered, length-columns}
+use Rattle.shortened.specs.ShortMatrix.{same-marks, same-sent-dimension, short-matrix}
 use Rattle.messages.specs.MessageRules.{messageRules}
-use Rattle.words.specs.Answers.{bitRules, rolesFault, rolesAnswer, rolesAfter, syndromeFault, syndromeAnswer, syndromeAfter}
+use Rattle.words.specs.Answers.{bitRules, rolesRules, rolesFault, rolesAnswer, rolesAfter, syndromeFault, syndromeAnswer, syndromeAfter}
 use Rattle.words.specs.Answers.{encodeFault, encodeAnswer, encodeAfter, messageFault, messageAnswer, messageAfter}
 use Rattle.gears.specs.Rows.{isRow, rowBits, rowMessage, gearIn, lampIn, isRowMessage, rowOf}
 use Rattle.nearest.specs.SameRepair.{same-repairable, same-repaired}
@@ -188,13 +194,13 @@ module _ {c₁ c₂ : Parameters} {h₁ cols₁ h₂ cols₂ : List ℕ} (M : Sa
 
 -- ---- the calls
 
--- what it takes: as many roots; the same number from the rules before the calls' own, `words` being the test of the words' lengths; and, where the
--- setting fits the code, the same matrix
-pub record Matched (c₁ : Parameters) (h₁ : List ℕ) (s₁ : Setting) (c₂ : Parameters) (h₂ : List ℕ) (s₂ : Setting) : Type 0 where
+-- What it takes beside the same marks: as many roots; the same number from the rules of the choice, `full` being the test of the lengths of what has
+-- an entry for each place; and, where the choice fits the code, the same matrix of all columns.
+pub record Matched (c₁ : Parameters) (h₁ : List ℕ) (k₁ : Choice) (c₂ : Parameters) (h₂ : List ℕ) (k₂ : Choice) : Type 0 where
   pub rows : c₁ .t ≡ c₂ .t
-  pub due : (others : Bool) (words : ℕ → Bool)
-      → fault (settingRules c₁ h₁ s₁ others (words (places c₁ s₁))) ≡ fault (settingRules c₂ h₂ s₂ others (words (places c₂ s₂)))
-  pub matrix : Fits c₁ s₁ → SameMatrix c₁ h₁ (columnsOf c₁ s₁) c₂ h₂ (columnsOf c₂ s₂)
+  pub due : (others : Bool) (full : ℕ → Bool)
+      → fault (choiceRules c₁ h₁ k₁ others (full (allPlaces c₁ k₁))) ≡ fault (choiceRules c₂ h₂ k₂ others (full (allPlaces c₂ k₂)))
+  pub matrix : ChoiceFits c₁ k₁ → SameMatrix c₁ h₁ (allColumns c₁ k₁) c₂ h₂ (allColumns c₂ k₂)
 
 -- the words after an offer, by the number of columns
 by-places : (c : Parameters) (h : List ℕ) (s : Setting) (d : Dash) (sender : ℕ) (word waiting words : List ℕ)
@@ -209,40 +215,80 @@ by-places c h s d sender word waiting words =
 abbrev Of : Type 0 → Type 0
 Of B = Parameters → List ℕ → List ℕ → B
 
-module _ {c₁ c₂ : Parameters} {h₁ h₂ : List ℕ} {s₁ s₂ : Setting} (P : Matched c₁ h₁ s₁ c₂ h₂ s₂) where
-  -- it is the same where the matrix is
+module _ {c₁ c₂ : Parameters} {h₁ h₂ : List ℕ} {k₁ k₂ : Choice} (P : Matched c₁ h₁ k₁ c₂ h₂ k₂) (hidden : List ℕ) where
+  abbrev s₁ : Setting
+  s₁ = shortened k₁ hidden
+
+  abbrev s₂ : Setting
+  s₂ = shortened k₂ hidden
+
+  -- ---- what holds where the rules of the choice refuse nothing
+
+  module _ (others : Bool) (full : ℕ → Bool) (none : fault (choiceRules c₁ h₁ k₁ others (full (allPlaces c₁ k₁))) ≡ 0) where
+    all-matrix : SameMatrix c₁ h₁ (allColumns c₁ k₁) c₂ h₂ (allColumns c₂ k₂)
+    all-matrix = P .matrix (choice-accepted c₁ h₁ k₁ others (full (allPlaces c₁ k₁)) none .3)
+
+    -- `full` tests the length of the marks too
+    all-marked : ((n : ℕ) → full n ≡ true → length hidden ≡ n) → length hidden ≡ length (allColumns c₂ k₂)
+    all-marked tests =
+        tests (allPlaces c₁ k₁) (choice-accepted c₁ h₁ k₁ others (full (allPlaces c₁ k₁)) none .1) ∙ sym (length-all c₁ k₁) ∙ all-matrix .columns
+
+  -- so that the marks are refused alike
+  marks-due : (others : Bool) (full : ℕ → Bool) (words : Bool) → ((n : ℕ) → full n ≡ true → length hidden ≡ n)
+      → fault (choiceRules c₁ h₁ k₁ others (full (allPlaces c₁ k₁)) ++ markRules c₁ h₁ (allColumns c₁ k₁) hidden words)
+      ≡ fault (choiceRules c₂ h₂ k₂ others (full (allPlaces c₂ k₂)) ++ markRules c₂ h₂ (allColumns c₂ k₂) hidden words)
+  marks-due others full words tests =
+      fault-alike (choiceRules c₁ h₁ k₁ others (full (allPlaces c₁ k₁))) (choiceRules c₂ h₂ k₂ others (full (allPlaces c₂ k₂)))
+      (markRules c₁ h₁ (allColumns c₁ k₁) hidden words) (markRules c₂ h₂ (allColumns c₂ k₂) hidden words)
+      (choice-numbered c₁ h₁ k₁ others (full (allPlaces c₁ k₁))) (choice-numbered c₂ h₂ k₂ others (full (allPlaces c₂ k₂)))
+      (P .due others full) (λ none. ap fault (same-marks (all-matrix others full none) hidden (all-marked others full none tests) words))
+
+  -- the same number is due from the rules before a call's own
+  pub setting-due : (others words : Bool) → fault (settingRules c₁ h₁ s₁ others words) ≡ fault (settingRules c₂ h₂ s₂ others words)
+  unfolding settingRules
+  setting-due others words = marks-due others (eqb (length hidden)) words (λ n. eqb-true (length hidden) n)
+
+  -- what a call takes from the columns that are sent is the same where the matrix is
   abbrev FromMatrix : {B : Type 0} → Of B → Type 0
   FromMatrix f = SameMatrix c₁ h₁ (columnsOf c₁ s₁) c₂ h₂ (columnsOf c₂ s₂) → f c₁ h₁ (columnsOf c₁ s₁) ≡ f c₂ h₂ (columnsOf c₂ s₂)
 
   matrix : (others words : Bool) → fault (settingRules c₁ h₁ s₁ others words) ≡ 0 → SameMatrix c₁ h₁ (columnsOf c₁ s₁) c₂ h₂ (columnsOf c₂ s₂)
-  matrix others words none = P .matrix (setting-accepted c₁ h₁ s₁ others words none .3)
+  unfolding settingRules columnsOf
+  matrix others words none =
+      let full : ℕ → Bool = eqb (length hidden) in
+      let first = first-holds (choiceRules c₁ h₁ k₁ others (full (allPlaces c₁ k₁))) (markRules c₁ h₁ (allColumns c₁ k₁) hidden words) none in
+      short-matrix (all-matrix others full first) hidden (all-marked others full first (λ n. eqb-true (length hidden) n))
 
   -- a call, by its own rules and its value
-  call : {B : Type 0} (others : Bool) (words : ℕ → Bool) (own : Of (List Rule)) (refused : ℕ → B) (value : Of B) → FromMatrix own → FromMatrix value
-      → unless-refused (fault (settingRules c₁ h₁ s₁ others (words (places c₁ s₁)) ++ own c₁ h₁ (columnsOf c₁ s₁))) refused
-      (value c₁ h₁ (columnsOf c₁ s₁))
-      ≡ unless-refused (fault (settingRules c₂ h₂ s₂ others (words (places c₂ s₂)) ++ own c₂ h₂ (columnsOf c₂ s₂))) refused
-      (value c₂ h₂ (columnsOf c₂ s₂))
+  call : {B : Type 0} (others words : Bool) (own : Of (List Rule)) (refused : ℕ → B) (value : Of B) → FromMatrix own → FromMatrix value
+      → unless-refused (fault (settingRules c₁ h₁ s₁ others words ++ own c₁ h₁ (columnsOf c₁ s₁))) refused (value c₁ h₁ (columnsOf c₁ s₁))
+      ≡ unless-refused (fault (settingRules c₂ h₂ s₂ others words ++ own c₂ h₂ (columnsOf c₂ s₂))) refused (value c₂ h₂ (columnsOf c₂ s₂))
   call others words own refused value same-own same-value =
-      let tested₁ : Bool = words (places c₁ s₁) in
-      let tested₂ : Bool = words (places c₂ s₂) in
-      let rules₁ : List Rule = settingRules c₁ h₁ s₁ others tested₁ in
-      let rules₂ : List Rule = settingRules c₂ h₂ s₂ others tested₂ in
+      let rules₁ : List Rule = settingRules c₁ h₁ s₁ others words in
+      let rules₂ : List Rule = settingRules c₂ h₂ s₂ others words in
       let own₁ : List Rule = own c₁ h₁ (columnsOf c₁ s₁) in
       let own₂ : List Rule = own c₂ h₂ (columnsOf c₂ s₂) in
       answer-alike refused (value c₁ h₁ (columnsOf c₁ s₁)) (value c₂ h₂ (columnsOf c₂ s₂))
-      (fault-alike rules₁ rules₂ own₁ own₂ (setting-numbered c₁ h₁ s₁ others tested₁) (setting-numbered c₂ h₂ s₂ others tested₂)
-      (P .due others words) (λ none. ap fault (same-own (matrix others tested₁ none))))
-      (λ none. same-value (matrix others tested₁ (first-holds rules₁ own₁ none)))
+      (fault-alike rules₁ rules₂ own₁ own₂ (setting-numbered c₁ h₁ s₁ others words) (setting-numbered c₂ h₂ s₂ others words)
+      (setting-due others words) (λ none. ap fault (same-own (matrix others words none))))
+      (λ none. same-value (matrix others words (first-holds rules₁ own₁ none)))
 
-  -- roles have no rules of their own
-  roles-call : {B : Type 0} (out : List ℕ) (refused : ℕ → B) (value : Of B) → FromMatrix value
-      → unless-refused (rolesFault c₁ h₁ s₁ out) refused (value c₁ h₁ (columnsOf c₁ s₁))
-      ≡ unless-refused (rolesFault c₂ h₂ s₂ out) refused (value c₂ h₂ (columnsOf c₂ s₂))
-  unfolding rolesFault
+  -- roles are those of all columns, and have no rules of their own
+  roles-call : {B : Type 0} (out : List ℕ) (refused : ℕ → B) (value : Of B)
+      → (SameMatrix c₁ h₁ (allColumns c₁ k₁) c₂ h₂ (allColumns c₂ k₂) → length hidden ≡ length (allColumns c₂ k₂)
+      → value c₁ h₁ (allColumns c₁ k₁) ≡ value c₂ h₂ (allColumns c₂ k₂))
+      → unless-refused (rolesFault c₁ h₁ s₁ out) refused (value c₁ h₁ (allColumns c₁ k₁))
+      ≡ unless-refused (rolesFault c₂ h₂ s₂ out) refused (value c₂ h₂ (allColumns c₂ k₂))
+  unfolding rolesFault rolesRules
   roles-call out refused value same-value =
-      answer-alike refused (value c₁ h₁ (columnsOf c₁ s₁)) (value c₂ h₂ (columnsOf c₂ s₂)) (P .due true (eqb (length out)))
-      (λ none. same-value (matrix true (eqb (length out) (places c₁ s₁)) none))
+      let full : ℕ → Bool = λ n. eqb (length hidden) n && eqb (length out) n in
+      let tests : (n : ℕ) → full n ≡ true → length hidden ≡ n =
+      λ n t. eqb-true (length hidden) n (both-true (eqb (length hidden) n) (eqb (length out) n) t .0) in
+      answer-alike refused (value c₁ h₁ (allColumns c₁ k₁)) (value c₂ h₂ (allColumns c₂ k₂)) (marks-due true full true tests)
+      (λ none.
+      let first =
+      first-holds (choiceRules c₁ h₁ k₁ true (full (allPlaces c₁ k₁))) (markRules c₁ h₁ (allColumns c₁ k₁) hidden true) none in
+      same-value (all-matrix true full first) (all-marked true full first tests))
 
   -- the syndrome's buffer of t is tested with the code
   syndrome-call : {B : Type 0} (word out : List ℕ) (refused : ℕ → B) (value : Of B) → FromMatrix value
@@ -251,11 +297,15 @@ module _ {c₁ c₂ : Parameters} {h₁ h₂ : List ℕ} {s₁ s₂ : Setting} (
   unfolding syndromeFault
   syndrome-call word out refused value same-value =
       ap (λ (t : ℕ).
-      unless-refused (fault (settingRules c₁ h₁ s₁ (eqb (length out) t) (eqb (length word) (places c₁ s₁)) ++ bitRules word)) refused
+      unless-refused (fault (settingRules c₁ h₁ s₁ (eqb (length out) t) (eqb (length word) (places s₁)) ++ bitRules word)) refused
       (value c₁ h₁ (columnsOf c₁ s₁))) (P .rows)
-      ∙ call (eqb (length out) (c₂ .t)) (eqb (length word)) (λ c h cols. bitRules word) refused value (λ M. refl) same-value
+      ∙ call (eqb (length out) (c₂ .t)) (eqb (length word) (places s₂)) (λ c h cols. bitRules word) refused value (λ M. refl) same-value
 
-  pub answered-alike : Alike c₁ h₁ s₁ c₂ h₂ s₂
+  -- the length of a word
+  abbrev n : ℕ
+  n = places s₁
+
+  pub answered-alike : Alike c₁ h₁ (shortened k₁ hidden) c₂ h₂ (shortened k₂ hidden)
   unfolding rolesAnswer rolesAfter syndromeAnswer syndromeAfter encodeFault encodeAnswer encodeAfter messageFault messageAnswer messageAfter
       repairFault repairAnswer repairAfter writeFault writeAnswer writeAfter readFault readAnswer readAfter rideFault rideAnswer startFault rideAfter
       beganFault startAnswer startWaiting startNext offerFault offerAnswer offerWaiting offerWords
@@ -263,8 +313,8 @@ module _ {c₁ c₂ : Parameters} {h₁ h₂ : List ℕ} {s₁ s₂ : Setting} (
   answered-alike =
       record {
         roles = λ out. (
-          roles-call out NotCounted (λ c h cols. Count (dimension c h cols)) (λ M. ap Count (same-dimension M)),
-          roles-call out (λ k. out) rolesOf same-roles,
+          roles-call out NotCounted (λ c h cols. Count (sentDimension c h cols hidden)) (λ M long. ap Count (same-sent-dimension M hidden long)),
+          roles-call out (λ k. out) rolesOf (λ M long. same-roles M),
         );
         syndrome = λ word out. (
           syndrome-call word out Refused (λ c h cols. Done) (λ M. refl),
@@ -273,17 +323,17 @@ module _ {c₁ c₂ : Parameters} {h₁ h₂ : List ℕ} {s₁ s₂ : Setting} (
         encode = λ message word.
             let own : Of (List Rule) = λ c h cols. messageRules (dimension c h cols) (length message) (allBits message) in
             let same-own : FromMatrix own = λ M. message-rules M (length message) (allBits message) in (
-              call true (eqb (length word)) own Refused (λ c h cols. Done) same-own (λ M. refl),
-              call true (eqb (length word)) own (λ k. word) (λ c h cols. encodingOf c h cols message) same-own (λ M. same-encoding M message),
+              call true (eqb (length word) n) own Refused (λ c h cols. Done) same-own (λ M. refl),
+              call true (eqb (length word) n) own (λ k. word) (λ c h cols. encodingOf c h cols message) same-own (λ M. same-encoding M message),
             );
         message = λ word out.
             let own : Of (List Rule) = λ c h cols. messageRules (dimension c h cols) (length out) (allBits word) in
             let same-own : FromMatrix own = λ M. message-rules M (length out) (allBits word) in (
-              call true (eqb (length word)) own Refused (λ c h cols. Done) same-own (λ M. refl),
-              call true (eqb (length word)) own (λ k. out) (λ c h cols. messageOf c h cols word) same-own (λ M. same-messages M word),
+              call true (eqb (length word) n) own Refused (λ c h cols. Done) same-own (λ M. refl),
+              call true (eqb (length word) n) own (λ k. out) (λ c h cols. messageOf c h cols word) same-own (λ M. same-messages M word),
             );
         repair = λ received repaired.
-            let words : ℕ → Bool = λ n. eqb (length received) n && eqb (length repaired) n in
+            let words : Bool = eqb (length received) n && eqb (length repaired) n in
             let own : Of (List Rule) = λ c h cols. wordRules c h cols received in
             let same-own : FromMatrix own = λ M. word-rules M received in (
               call true words own NotRepaired (λ c h cols. Repaired (turnedCount c h cols received)) same-own
@@ -293,30 +343,30 @@ module _ {c₁ c₂ : Parameters} {h₁ h₂ : List ℕ} {s₁ s₂ : Setting} (
         write-row = λ gear lamp word.
             let own : Of (List Rule) = λ c h cols. writeRules c h cols gear lamp in
             let same-own : FromMatrix own = λ M. write-rules M gear lamp in (
-              call true (eqb (length word)) own Refused (λ c h cols. Done) same-own (λ M. refl),
-              call true (eqb (length word)) own (λ k. word) (λ c h cols. rowWord c h cols gear lamp) same-own (λ M. row-word M gear lamp),
+              call true (eqb (length word) n) own Refused (λ c h cols. Done) same-own (λ M. refl),
+              call true (eqb (length word) n) own (λ k. word) (λ c h cols. rowWord c h cols gear lamp) same-own (λ M. row-word M gear lamp),
             );
         read-row = λ received repaired.
-            let words : ℕ → Bool = λ n. eqb (length received) n && eqb (length repaired) n in
+            let words : Bool = eqb (length received) n && eqb (length repaired) n in
             let own : Of (List Rule) = λ c h cols. readRules c h cols received in
             let same-own : FromMatrix own = λ M. read-rules M received in (
               call true words own NotRead (λ c h cols. rowRead c h cols received) same-own (λ M. row-read M received),
               call true words own (λ k. repaired) (λ c h cols. repairedOf c h cols received) same-own (λ M. same-repaired M received),
             );
         ride = λ σ counts. (
-          call (rideLengths σ counts) (marksLong σ) (λ c h cols. rideRules c h cols σ) Refused (λ c h cols. Done) (λ M. ride-rules M σ) (λ M. refl),
-          call (rideLengths σ counts) (marksLong σ) startRules (λ k. counts) (λ c h cols. rideCounts c h cols σ) start-rules (λ M. ride-counts M σ),
+          call (rideLengths σ counts) (marksLong σ n) (λ c h cols. rideRules c h cols σ) Refused (λ c h cols. Done) (λ M. ride-rules M σ) (λ M. refl),
+          call (rideLengths σ counts) (marksLong σ n) startRules (λ k. counts) (λ c h cols. rideCounts c h cols σ) start-rules (λ M. ride-counts M σ),
         );
         start = λ d waiting next.
             let lengths : Bool = startLengths d waiting next in
             let own : Of (List Rule) = λ c h cols. dashRules d in (
-              call lengths (λ n. true) own Refused (λ c h cols. Done) (λ M. refl) (λ M. refl),
-              call lengths (λ n. true) own (λ k. waiting) (λ c h cols. replicate (d .senders) 0) (λ M. refl) (λ M. refl),
-              call lengths (λ n. true) own (λ k. next) (λ c h cols. 0 ∷ []) (λ M. refl) (λ M. refl),
+              call lengths true own Refused (λ c h cols. Done) (λ M. refl) (λ M. refl),
+              call lengths true own (λ k. waiting) (λ c h cols. replicate (d .senders) 0) (λ M. refl) (λ M. refl),
+              call lengths true own (λ k. next) (λ c h cols. 0 ∷ []) (λ M. refl) (λ M. refl),
             );
         offer = λ d sender word waiting words.
             let others : Bool = eqb (length waiting) (d .senders) in
-            let lengths : ℕ → Bool = offerLengths d word words in
+            let lengths : Bool = offerLengths d word words n in
             let own : Of (List Rule) = λ c h cols. dashRules d ++ offerRules d sender word waiting in (
               call others lengths own Refused (λ c h cols. Done) (λ M. refl) (λ M. refl),
               call others lengths own (λ k. waiting) (λ c h cols. set waiting sender 1) (λ M. refl) (λ M. refl),
@@ -327,7 +377,7 @@ module _ {c₁ c₂ : Parameters} {h₁ h₂ : List ℕ} {s₁ s₂ : Setting} (
             );
         round = λ d σ answers handed.
             let others : Bool = roundLengths d σ answers in
-            let lengths : ℕ → Bool = roundWords d σ handed in
+            let lengths : Bool = roundWords d σ handed n in
             let own : Of (List Rule) = λ c h cols. roundRules d σ cols in
             let same-own : FromMatrix own = λ M. round-rules M d σ in (
               call others lengths own Refused (λ c h cols. Done) same-own (λ M. refl),

@@ -1,6 +1,6 @@
 -- Several senders on one code: what a start and an offer leave, what a round hands out to whom, and whose turn it is then.
 --
--- Everything is said at any setting s, whose words have n = `places c s` places; the public calls are at `wholeCode`.
+-- Everything is said at any setting s, whose words have n = `places s` places, those that are sent; the public calls are at `shortCode hidden`.
 use mathlib.Core.Path.{_≡_, refl, sym, ap, ap₂, _∙_, subst}
 use mathlib.Core.Logic.{_≢_}
 use mathlib.Core.Bool.{Bool, true, false, not, _&&_, _||_}
@@ -19,9 +19,9 @@ use Rattle.refusals.specs.Rules.{unless-refused}
 use Rattle.params.specs.declared.Parameters.{Parameters}
 use Rattle.params.specs.Code.{Accepted}
 use Rattle.parity.specs.Word.{isCodeWord}
-use Rattle.columns.specs.Fits.{Fits}
-use Rattle.columns.specs.Setting.{Setting, places, columnsOf}
-use Rattle.columns.specs.SettingLaws.{setting-leaves, length-columns}
+use Rattle.shortened.specs.Fits.{Fits}
+use Rattle.shortened.specs.Setting.{Setting, places, columnsOf}
+use Rattle.shortened.specs.SettingLaws.{setting-leaves, length-columns}
 use Rattle.nearest.specs.Repair.{repairedOf}
 use Rattle.repair.specs.declared.Recovery.the-variants.{Repaired, Refused as NotRepaired}
 use Rattle.repair.specs.Answers.{wordRules, turnedCount, repairFault, repairAnswer, repairAfter}
@@ -59,26 +59,26 @@ module _ (c : Parameters) (h : List ℕ) (s : Setting) (d : Dash) where
 
     -- the word that is offered waits
     pub offer-waits : (entryOf waiting sender ≡ 0) × (entryOf (offerWaiting c h s d sender word waiting words) sender ≡ 1)
-        × (part (places c s) (offerWords c h s d sender word waiting words) sender ≡ word)
+        × (part (places s) (offerWords c h s d sender word waiting words) sender ≡ word)
     offer-waits = (offered .free, offered-mark offered, offered-word offered)
 
     -- and nothing else is touched
     pub offer-keeps : (p : ℕ) → p < d .senders → p ≢ sender
         → (entryOf (offerWaiting c h s d sender word waiting words) p ≡ entryOf waiting p)
-        × (part (places c s) (offerWords c h s d sender word waiting words) p ≡ part (places c s) words p)
+        × (part (places s) (offerWords c h s d sender word waiting words) p ≡ part (places s) words p)
     offer-keeps p l ne = (kept-mark offered p ne, kept-word offered p ne l)
 
 -- ---- repair alone
 
 -- what repair answers, and leaves in a buffer, for a word of an accepted code
-pub repair-alone : {c : Parameters} {h : List ℕ} → Accepted c h → (s : Setting) → Fits c s → (word buffer : List ℕ) → length word ≡ places c s
-    → length buffer ≡ places c s
+pub repair-alone : {c : Parameters} {h : List ℕ} → Accepted c h → (s : Setting) → Fits c h s → (word buffer : List ℕ) → length word ≡ places s
+    → length buffer ≡ places s
     → (repairAnswer c h s word buffer ≡ wordAnswer c h (columnsOf c s) word) ×
     (repairAfter c h s word buffer ≡ wordAfter c h (columnsOf c s) word buffer)
 unfolding repairAnswer repairAfter repairFault wordAnswer wordAfter
 repair-alone {c} {h} A s F word buffer long room =
     let rest =
-    setting-leaves A s F refl (both-hold (eq-eqb (length word) (places c s) long) (eq-eqb (length buffer) (places c s) room))
+    setting-leaves A s F refl (both-hold (eq-eqb (length word) (places s) long) (eq-eqb (length buffer) (places s) room))
     (wordRules c h (columnsOf c s) word) in (
       ap (λ (k : ℕ). unless-refused k NotRepaired (Repaired (turnedCount c h (columnsOf c s) word))) rest,
       ap (λ (k : ℕ). unless-refused k (λ i. buffer) (repairedOf c h (columnsOf c s) word)) rest,
@@ -89,15 +89,15 @@ repair-alone {c} {h} A s F word buffer long room =
 -- "What a sender gets for a word is the answer that repair alone gives", and its word, "in a lent buffer of S words"; it no longer waits
 abbrev pub GetsRepair : Parameters → List ℕ → Setting → Dash → State → List ℕ → List ℕ → ℕ → Type 0
 GetsRepair c h s d σ answers handed p =
-    (entryOf (answersAfter c h s d σ answers handed) p ≡ recoveryCode (repairAnswer c h s (wordAt (places c s) σ p) (part (places c s) handed p)))
-    × (part (places c s) (handedAfter c h s d σ answers handed) p ≡ repairAfter c h s (wordAt (places c s) σ p) (part (places c s) handed p))
+    (entryOf (answersAfter c h s d σ answers handed) p ≡ recoveryCode (repairAnswer c h s (wordAt (places s) σ p) (part (places s) handed p)))
+    × (part (places s) (handedAfter c h s d σ answers handed) p ≡ repairAfter c h s (wordAt (places s) σ p) (part (places s) handed p))
     × (entryOf (waitingAfter c h s d σ answers handed) p ≡ 0)
 
 -- "none where no word left", "a part with no word being unchanged"; whether one waits is as it was
 abbrev pub GetsNothing : Parameters → List ℕ → Setting → Dash → State → List ℕ → List ℕ → ℕ → Type 0
 GetsNothing c h s d σ answers handed p =
     (entryOf (answersAfter c h s d σ answers handed) p ≡ none)
-    × (part (places c s) (handedAfter c h s d σ answers handed) p ≡ part (places c s) handed p)
+    × (part (places s) (handedAfter c h s d σ answers handed) p ≡ part (places s) handed p)
     × (entryOf (waitingAfter c h s d σ answers handed) p ≡ entryOf (σ .waiting) p)
 
 -- the words that wait and are no code words whose senders have a turn before that of sender p
@@ -117,23 +117,23 @@ module _ (c : Parameters) (h : List ℕ) (s : Setting) (d : Dash) (σ : State) (
     made = round-made c h s d σ answers handed (done-none (roundFault c h s d σ answers handed) done)
 
     module _ (p : ℕ) (l : p < d .senders) where
-      word-long : length (wordAt (places c s) σ p) ≡ places c s
+      word-long : length (wordAt (places s) σ p) ≡ places s
       word-long =
-          length-part (places c s) (σ .words) p
-          (subst (λ (k : ℕ). p * places c s + places c s ≤ k)
-          (sym (made .lent .words-long ∙ ap (λ (n : ℕ). d .senders * n) (length-columns c s))) (part-room (places c s) l))
+          length-part (places s) (σ .words) p
+          (subst (λ (k : ℕ). p * places s + places s ≤ k)
+          (sym (made .lent .words-long ∙ ap (λ (n : ℕ). d .senders * n) (length-columns c s))) (part-room (places s) l))
 
-      room-long : length (part (places c s) handed p) ≡ places c s
+      room-long : length (part (places s) handed p) ≡ places s
       room-long =
-          length-part (places c s) handed p
-          (subst (λ (k : ℕ). p * places c s + places c s ≤ k)
-          (sym (made .lent .handed-long ∙ ap (λ (n : ℕ). d .senders * n) (length-columns c s))) (part-room (places c s) l))
+          length-part (places s) handed p
+          (subst (λ (k : ℕ). p * places s + places s ≤ k)
+          (sym (made .lent .handed-long ∙ ap (λ (n : ℕ). d .senders * n) (length-columns c s))) (part-room (places s) l))
 
       -- a word that leaves, and one that does not
       left : leaves c h (columnsOf c s) d σ p ≡ true → GetsRepair c h s d σ answers handed p
       left e =
-          let (answer, after) = repair-alone (made .accepted) s (made .fits) (wordAt (places c s) σ p)
-          (part (places c s) handed p) word-long room-long in (
+          let (answer, after) = repair-alone (made .accepted) s (made .fits) (wordAt (places s) σ p)
+          (part (places s) handed p) word-long room-long in (
             left-answer c h s d σ answers handed made p l e ∙ ap recoveryCode (sym answer),
             left-handed c h s d σ answers handed made p l e ∙ sym after,
             left-waiting c h s d σ answers handed made p l e,
@@ -149,14 +149,14 @@ module _ (c : Parameters) (h : List ℕ) (s : Setting) (d : Dash) (σ : State) (
       -- no answer of repair is taken for that of a sender who gets nothing
       pub told-apart : GetsRepair c h s d σ answers handed p → entryOf (answersAfter c h s d σ answers handed) p ≢ none
       told-apart (answer, copied, left) e =
-          let (alone, after) = repair-alone (made .accepted) s (made .fits) (wordAt (places c s) σ p)
-          (part (places c s) handed p) word-long room-long in
-          recovery-apart (made .accepted) s (made .fits) (wordAt (places c s) σ p) (ap recoveryCode (sym alone) ∙ sym answer ∙ e)
+          let (alone, after) = repair-alone (made .accepted) s (made .fits) (wordAt (places s) σ p)
+          (part (places s) handed p) word-long room-long in
+          recovery-apart (made .accepted) s (made .fits) (wordAt (places s) σ p) (ap recoveryCode (sym alone) ∙ sym answer ∙ e)
 
       -- ---- who leaves
 
       -- whether it leaves, by whether a word waits, is a code word, and has a turn early enough
-      leaves-by : {w i e : Bool} → eqb (entryOf (σ .waiting) p) 1 ≡ w → isCodeWord c h (columnsOf c s) (wordAt (places c s) σ p) ≡ i
+      leaves-by : {w i e : Bool} → eqb (entryOf (σ .waiting) p) 1 ≡ w → isCodeWord c h (columnsOf c s) (wordAt (places s) σ p) ≡ i
           → ltb (earlier c h s d σ p) (d .repairs) ≡ e → leaves c h (columnsOf c s) d σ p ≡ ((w && i) || ((w && not i) && e))
       unfolding leaves isWhole isOther isTried
       leaves-by {w} {i} {e} waits whole early =
@@ -173,11 +173,11 @@ module _ (c : Parameters) (h : List ℕ) (s : Setting) (d : Dash) (σ : State) (
         is-one = eq-eqb (entryOf (σ .waiting) p) 1 waits
 
         -- "Each round hands out every waiting word that is a code word"
-        pub code-word-leaves : isCodeWord c h (columnsOf c s) (wordAt (places c s) σ p) ≡ true → GetsRepair c h s d σ answers handed p
+        pub code-word-leaves : isCodeWord c h (columnsOf c s) (wordAt (places s) σ p) ≡ true → GetsRepair c h s d σ answers handed p
         code-word-leaves whole = left (leaves-by is-one whole refl)
 
         -- "and repairs the first R of the others in turn"
-        module _ (damaged : isCodeWord c h (columnsOf c s) (wordAt (places c s) σ p) ≡ false) where
+        module _ (damaged : isCodeWord c h (columnsOf c s) (wordAt (places s) σ p) ≡ false) where
           pub early-leaves : earlier c h s d σ p < d .repairs → GetsRepair c h s d σ answers handed p
           early-leaves l = left (leaves-by is-one damaged (lt-ltb (earlier c h s d σ p) (d .repairs) l))
 

@@ -137,8 +137,10 @@ module _ {c : Parameters} {h : List ℕ} (A : Accepted c h) where
   code-line-fits =
       let short = n-short (A .limits) in
       let high = A .limits .width .high in
+      let half = A .limits .t-high in
+      let fewer = messageLength-le c h in
       small (c .m ∷ c .n ∷ c .t ∷ c .omega ∷ (c .n - messageLength c h) ∷ messageLength c h ∷ [])
-      (omega arith, (omega arith, (omega (arith, A .limits .t-high), (element-small (A .ω-in), (omega arith, (omega (arith, messageLength-le c h), tt))))))
+      (omega arith, (omega arith, (omega arith, (element-small (A .ω-in), (omega arith, (omega arith, tt))))))
 
   -- and those of the line of each column
   pub column-line-fits : (j : ℕ) → j < c .n

@@ -21,7 +21,7 @@ use Rattle.refusals.specs.RuleLaws.{fault-past, fault-here, fault-none}
 use Rattle.slices.specs.Bits.{allBits}
 use Rattle.params.specs.declared.Parameters.{Parameters}
 use Rattle.parity.specs.Word.{isCodeWord}
-use Rattle.columns.specs.Setting.{Setting, places, columnsOf}
+use Rattle.shortened.specs.Setting.{Setting, places, columnsOf}
 use Rattle.nearest.specs.Repair.{isRepairable}
 use Rattle.repair.specs.declared.Recovery.{Recovery}
 use Rattle.repair.specs.declared.Recovery.the-variants.{Repaired, Refused as NotRepaired}
@@ -54,21 +54,21 @@ module _ (c : Parameters) (h : List ℕ) (s : Setting) (d : Dash) (p : ℕ) (lp 
   abbrev Brings : List Event → State → Type 0
   Brings events σ =
       entryOf (σ .waiting) p ≡ 1 → turnOf (d .senders) (entryOf (σ .next) 0) p < roundsMade c h s d σ events * d .repairs
-      → firstAnswer c h s d p σ events ≡ recoveryCode (wordAnswer c h (columnsOf c s) (wordAt (places c s) σ p))
+      → firstAnswer c h s d p σ events ≡ recoveryCode (wordAnswer c h (columnsOf c s) (wordAt (places s) σ p))
 
   -- ---- an offer leaves it waiting as it was
 
   offer-keeps : (σ : State) (sender : ℕ) (word : List ℕ) → entryOf (σ .waiting) p ≡ 1
       → (entryOf (offerWaiting c h s d sender word (σ .waiting) (σ .words)) p ≡ 1)
-      × (part (places c s) (offerWords c h s d sender word (σ .waiting) (σ .words)) p ≡ part (places c s) (σ .words) p)
+      × (part (places s) (offerWords c h s d sender word (σ .waiting) (σ .words)) p ≡ part (places s) (σ .words) p)
   offer-keeps σ sender word waits = decided (ℕ-discrete (offerFault c h s d sender word (σ .waiting) (σ .words)) 0)
     where
       decided : Dec (offerFault c h s d sender word (σ .waiting) (σ .words) ≡ 0)
           → (entryOf (offerWaiting c h s d sender word (σ .waiting) (σ .words)) p ≡ 1)
-          × (part (places c s) (offerWords c h s d sender word (σ .waiting) (σ .words)) p ≡ part (places c s) (σ .words) p)
+          × (part (places s) (offerWords c h s d sender word (σ .waiting) (σ .words)) p ≡ part (places s) (σ .words) p)
       decided (no ne) =
           let (waiting, words) = offer-unchanged c h s d sender word (σ .waiting) (σ .words) ne in
-          (ap (λ (l : List ℕ). entryOf l p) waiting ∙ waits, ap (λ (l : List ℕ). part (places c s) l p) words)
+          (ap (λ (l : List ℕ). entryOf l p) waiting ∙ waits, ap (λ (l : List ℕ). part (places s) l p) words)
       decided (yes z) =
           let O = offer-made c h s d sender word (σ .waiting) (σ .words) z in
           let apart : p ≢ sender = λ e. free (sym waits ∙ ap (entryOf (σ .waiting)) e ∙ O .free) in
@@ -93,7 +93,7 @@ module _ (c : Parameters) (h : List ℕ) (s : Setting) (d : Dash) (p : ℕ) (lp 
       rest = roundsMade c h s d (after c h s d σ (round answers handed)) events
 
       abbrev due : ℕ
-      due = recoveryCode (wordAnswer c h (columnsOf c s) (wordAt (places c s) σ p))
+      due = recoveryCode (wordAnswer c h (columnsOf c s) (wordAt (places s) σ p))
 
       refused-step : roundFault c h s d σ answers handed ≢ 0 → turnOf (d .senders) (entryOf (σ .next) 0) p < (0 + rest) * d .repairs
           → firstAnswer c h s d p (after c h s d σ (round answers handed)) events ≡ due
@@ -113,7 +113,7 @@ module _ (c : Parameters) (h : List ℕ) (s : Setting) (d : Dash) (p : ℕ) (lp 
         unfolding firstOf
         answered e x =
             ap (λ (a : ℕ). cond (eqb a none) x a) (left-answer c h s d σ answers handed M p lp e)
-            ∙ ap (λ (b : Bool). cond b x due) (ne-eqb due none (recovery-apart (M .accepted) s (M .fits) (wordAt (places c s) σ p)))
+            ∙ ap (λ (b : Bool). cond b x due) (ne-eqb due none (recovery-apart (M .accepted) s (M .fits) (wordAt (places s) σ p)))
 
         -- it is one of the others, and was not tried
         untried : leaves c h (columnsOf c s) d σ p ≡ false
@@ -229,18 +229,18 @@ repaired-or-too-far c h cols received bits = decided (isRepairable c h cols rece
 -- gives for it: it is handed out or repaired, with its count, or refused by 10.
 pub leaves-within : (c : Parameters) (h : List ℕ) (s : Setting) (d : Dash) (σ : State) → Reached c h s d σ → (p : ℕ) → p < d .senders
     → entryOf (σ .waiting) p ≡ 1 → (events : List Event) → roundsNeeded d ≤ roundsMade c h s d σ events → (buffer : List ℕ)
-    → length buffer ≡ places c s
-    → (firstAnswer c h s d p σ events ≡ recoveryCode (repairAnswer c h s (wordAt (places c s) σ p) buffer))
-    × (((k : ℕ) × (repairAnswer c h s (wordAt (places c s) σ p) buffer ≡ Repaired k))
-    ⊎ (repairAnswer c h s (wordAt (places c s) σ p) buffer ≡ NotRepaired 10))
+    → length buffer ≡ places s
+    → (firstAnswer c h s d p σ events ≡ recoveryCode (repairAnswer c h s (wordAt (places s) σ p) buffer))
+    × (((k : ℕ) × (repairAnswer c h s (wordAt (places s) σ p) buffer ≡ Repaired k))
+    ⊎ (repairAnswer c h s (wordAt (places s) σ p) buffer ≡ NotRepaired 10))
 leaves-within c h s d σ R p lp waits events enough buffer room =
     let T = sound c h s d σ R in
     let (long, bits) = T .words p lp waits in
     let some : 1 ≤ d .repairs = dash-some d (T .numbers) .1 in
-    let inside : p * places c s + places c s ≤ length (σ .words) =
-    subst (λ (k : ℕ). p * places c s + places c s ≤ k) (sym long) (part-room (places c s) lp) in
+    let inside : p * places s + places s ≤ length (σ .words) =
+    subst (λ (k : ℕ). p * places s + places s ≤ k) (sym long) (part-room (places s) lp) in
     let (alone, copied) =
-    repair-alone (T .accepted) s (T .fits) (wordAt (places c s) σ p) buffer (length-part (places c s) (σ .words) p inside) room in
+    repair-alone (T .accepted) s (T .fits) (wordAt (places s) σ p) buffer (length-part (places s) (σ .words) p inside) room in
     let near : turnOf (d .senders) (entryOf (σ .next) 0) p < roundsMade c h s d σ events * d .repairs =
     omega (
       arith,
@@ -250,7 +250,7 @@ leaves-within c h s d σ R p lp waits events enough buffer room =
     ) in (
       brings c h s d p lp events σ waits near ∙ ap recoveryCode (sym alone),
       told alone
-          (repaired-or-too-far c h (columnsOf c s) (wordAt (places c s) σ p) bits),
+          (repaired-or-too-far c h (columnsOf c s) (wordAt (places s) σ p) bits),
     )
   where
     told : {a b : Recovery} → a ≡ b → ((k : ℕ) × (b ≡ Repaired k)) ⊎ (b ≡ NotRepaired 10) → ((k : ℕ) × (a ≡ Repaired k)) ⊎ (a ≡ NotRepaired 10)

@@ -29,8 +29,11 @@ use Rattle.formula.specs.Letters.{Lent}
 use Rattle.formula.specs.Answers.{Answered, lentRules, readingRules, formulaRules, formulaFault, formulaAnswer}
 use Rattle.signature.specs.Tests.{signatureRules, nonzero, noZero, linear}
 use Rattle.params.specs.declared.Parameters.{Parameters}
-use Rattle.params.specs.Code.{shapeRules, isRootCount, codeRules, codeFault}
+use Rattle.params.specs.Code.{shapeRules, isRootCount, codeRules}
 use Rattle.essence.specs.Answers.{shapeRules as essenceShapeRules, essenceRules, essenceFault, essenceAnswer, valueRules, signatureAnswer}
+use Rattle.columns.specs.Choice.{Choice.wholeCode, allColumns, choiceRules}
+use Rattle.shortened.specs.Marks.{markRules}
+use Rattle.shortened.specs.Setting.{settingRules}
 use Rattle.codes.specs.Answers.{checkFault, checkAnswer}
 use Rattle.demands.specs.Demand1.{field-sum-refuses, field-product-refuses, field-inverse-refuses}
 use Rattle.demands.specs.Demand1.{block-sum-refuses, block-product-refuses, block-inverse-refuses, signature-refuses}
@@ -58,21 +61,24 @@ zero-entry h = (
       let (i, l, zero) = z in all-false (length h) (nonzero h) i l (ap not (eq-eqb (entryOf h i) 0 zero)),
 )
 
--- a code is refused by 4 exactly if nothing from 1 to 3 is wrong with it and with the lent buffers, and an entry of its signature is zero
-pub check-4-exactly : (c : Parameters) (h roots support : List ℕ)
-    → (checkAnswer c h roots support ≡ Refused 4)
-    ↔ (Hold (shapeRules (eqb (length roots) (c .n) && eqb (length support) (c .n)) c h) × ((i : ℕ) × (i < length h) × (entryOf h i ≡ 0)))
-unfolding checkAnswer checkFault codeFault codeRules shapeRules signatureRules
-check-4-exactly c h roots support =
+-- a code is refused by 4 exactly if nothing from 1 to 3 is wrong with it, with the length of its marks and with the lent buffers, and an entry of its
+-- signature is zero; whatever the marks hold
+pub check-4-exactly : (c : Parameters) (h hidden roots support : List ℕ)
+    → (checkAnswer c h hidden roots support ≡ Refused 4)
+    ↔ (Hold (shapeRules (eqb (length roots) (c .n) && eqb (length support) (c .n) && eqb (length hidden) (c .n)) c h)
+    × ((i : ℕ) × (i < length h) × (entryOf h i ≡ 0)))
+unfolding checkAnswer checkFault settingRules choiceRules codeRules shapeRules signatureRules markRules
+check-4-exactly c h hidden roots support =
     (λ e. (exactly .0 e .0, zero-entry h .0 (exactly .0 e .1)), λ z. exactly .1 (z .0, zero-entry h .1 (z .1)))
   where
-    buffers : Bool
-    buffers = eqb (length roots) (c .n) && eqb (length support) (c .n)
+    lengths : Bool
+    lengths = eqb (length roots) (c .n) && eqb (length support) (c .n) && eqb (length hidden) (c .n)
 
-    exactly : (checkAnswer c h roots support ≡ Refused 4) ↔ (Hold (shapeRules buffers c h) × (noZero h ≡ false))
+    exactly : (checkAnswer c h hidden roots support ≡ Refused 4) ↔ (Hold (shapeRules lengths c h) × (noZero h ≡ false))
     exactly =
-        refused-exactly (shapeRules buffers c h) 4 (noZero h)
-        ((5 unless linear (c .m) h) ∷ (6 unless distinct h) ∷ (7 unless isRootCount (c .n) (c .t)) ∷ []) tt (λ z. omega arith) refl refl
+        let marks = markRules c h (allColumns c wholeCode) hidden true in
+        refused-exactly (shapeRules lengths c h) 4 (noZero h)
+        ((5 unless linear (c .m) h) ∷ (6 unless distinct h) ∷ (7 unless isRootCount (c .n) (c .t)) ∷ marks) tt (λ z. omega arith) refl refl
 
 -- ---- signatures
 

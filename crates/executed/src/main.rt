@@ -1,8 +1,9 @@
-// The cases that are executed: the toy example, which is 01's card T, every pair of a gear and a lamp on it, the limits, formulas, and
+// The cases that are executed: the toy example, which is 01's card T, every pair of a gear and a lamp on it, the limits, short words, formulas, and
 // essences. What this prints is compared with the stored output.
 mod essences;
 mod formulas;
 mod pairs;
+mod short;
 
 use field::Answer;
 use field::Elem;
@@ -14,6 +15,9 @@ use repair::Recovery;
 
 // Card T.
 const TOY: [Elem; 16] = [12, 8, 10, 22, 26, 9, 16, 21, 14, 5, 17, 4, 30, 23, 25, 31];
+
+// Marks of card T's places that hide none.
+const NOTHING: [u8; 16] = [0; 16];
 
 // Card T's numbers.
 fn toy() -> Parameters {
@@ -78,8 +82,8 @@ fn show_toy() {
     let mut support: [Elem; 16] = [0; 16];
     let mut roles: [u8; 16] = [0; 16];
     let c = toy();
-    codes::check(c, &TOY, &mut roots, &mut support);
-    words::roles(c, &TOY, &mut roles);
+    codes::check(c, &TOY, &NOTHING, &mut roots, &mut support);
+    words::roles(c, &TOY, &NOTHING, &mut roles);
     print(b"toy example: support");
     print_elements(&support);
     print(b"toy example: roots");
@@ -90,7 +94,7 @@ fn show_toy() {
 
 fn show_repair(received: &[u8]) {
     let mut repaired: [u8; 16] = [0; 16];
-    let recovery = repair::repair(toy(), &TOY, received, &mut repaired);
+    let recovery = repair::repair(toy(), &TOY, &NOTHING, received, &mut repaired);
     print_recovery(recovery, &repaired);
 }
 
@@ -106,7 +110,7 @@ fn turned(word: [u8; 16], place: usize) -> [u8; 16] {
 
 fn show_row() {
     let mut word: [u8; 16] = [0; 16];
-    rows::write_row(toy(), &TOY, 1, 0, &mut word);
+    rows::write_row(toy(), &TOY, &NOTHING, 1, 0, &mut word);
     print(b"first, dark: ones at");
     print_ones(&word);
     let received = turned(turned(word, 0), 8);
@@ -128,17 +132,30 @@ fn show_width(m: u32) {
     print(b"m");
     print_number(m as u64);
     print(b":");
-    print_outcome(codes::check(code(m, 2, 1, 0), &h, &mut roots, &mut support));
+    print_outcome(codes::check(
+        code(m, 2, 1, 0),
+        &h,
+        &NOTHING[..2],
+        &mut roots,
+        &mut support,
+    ));
 }
 
-// Whether a signature in the field of width m is accepted, n being its length.
-fn show_length(m: u32, n: u32, h: &[Elem], roots: &mut [Elem], support: &mut [Elem]) {
+// Whether a signature in the field of width m is accepted, n being its length, with marks that hide nothing.
+fn show_length(
+    m: u32,
+    n: u32,
+    h: &[Elem],
+    hidden: &[u8],
+    roots: &mut [Elem],
+    support: &mut [Elem],
+) {
     print(b"m");
     print_number(m as u64);
     print(b", n");
     print_number(n as u64);
     print(b":");
-    print_outcome(codes::check(code(m, n, 1, 0), h, roots, support));
+    print_outcome(codes::check(code(m, n, 1, 0), h, hidden, roots, support));
 }
 
 // A length that no signature has.
@@ -146,7 +163,7 @@ fn show_length_3() {
     let h: [Elem; 3] = [1; 3];
     let mut roots: [Elem; 3] = [0; 3];
     let mut support: [Elem; 3] = [0; 3];
-    show_length(9, 3, &h, &mut roots, &mut support);
+    show_length(9, 3, &h, &NOTHING[..3], &mut roots, &mut support);
 }
 
 // The inverse of an element of the field of width 9.
@@ -170,7 +187,8 @@ fn show_length_256() {
     let h = signature_256();
     let mut roots: [Elem; 256] = [0; 256];
     let mut support: [Elem; 256] = [0; 256];
-    show_length(9, 256, &h, &mut roots, &mut support);
+    let hidden: [u8; 256] = [0; 256];
+    show_length(9, 256, &h, &hidden, &mut roots, &mut support);
 }
 
 // A length above the longest.
@@ -178,7 +196,8 @@ fn show_length_1024() {
     let h: [Elem; 1024] = [1; 1024];
     let mut roots: [Elem; 1024] = [0; 1024];
     let mut support: [Elem; 1024] = [0; 1024];
-    show_length(16, 1024, &h, &mut roots, &mut support);
+    let hidden: [u8; 1024] = [0; 1024];
+    show_length(16, 1024, &h, &hidden, &mut roots, &mut support);
 }
 
 // Whether card A with t roots is accepted.
@@ -189,7 +208,13 @@ fn show_root_count(t: u32) {
     print(b"n 4, t");
     print_number(t as u64);
     print(b":");
-    print_outcome(codes::check(code(3, 4, t, 0), &h, &mut roots, &mut support));
+    print_outcome(codes::check(
+        code(3, 4, t, 0),
+        &h,
+        &NOTHING[..4],
+        &mut roots,
+        &mut support,
+    ));
 }
 
 // A code whose only code word is zero: k is 0.
@@ -198,7 +223,13 @@ fn show_empty_message() {
     let message: [u8; 2] = [0; 2];
     let mut word: [u8; 2] = [1; 2];
     print(b"k 0, the empty message:");
-    print_outcome(words::encode(code(2, 2, 1, 0), &h, &message[..0], &mut word));
+    print_outcome(words::encode(
+        code(2, 2, 1, 0),
+        &h,
+        &NOTHING[..2],
+        &message[..0],
+        &mut word,
+    ));
     print(b"its word has ones at");
     print_ones(&word);
 }
@@ -218,6 +249,7 @@ fn main() {
     show_root_count(2);
     show_root_count(4);
     show_empty_message();
+    short::show_short();
     formulas::show_formulas();
     essences::show_essences();
 }

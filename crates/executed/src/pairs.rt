@@ -1,5 +1,6 @@
 // Every pair of a gear and a lamp on card T: whether it is written as a row, and what is read from its word with no, one and two bits turned. A pair
 // that is no row is encoded as a message, so that the reader meets it too.
+use crate::NOTHING;
 use crate::TOY;
 use crate::print;
 use crate::print_number;
@@ -41,13 +42,13 @@ fn word_of(gear: u32, lamp: u32) -> [u8; 16] {
         0,
     ];
     let mut word: [u8; 16] = [0; 16];
-    words::encode(toy(), &TOY, &message, &mut word);
+    words::encode(toy(), &TOY, &NOTHING, &message, &mut word);
     word
 }
 
 fn show_reading(received: [u8; 16]) {
     let mut repaired: [u8; 16] = [0; 16];
-    let reading = rows::read_row(toy(), &TOY, &received, &mut repaired);
+    let reading = rows::read_row(toy(), &TOY, &NOTHING, &received, &mut repaired);
     match reading {
         Reading::Read(row, count) => {
             let lamp = row.lamp;
@@ -67,7 +68,7 @@ fn show_reading(received: [u8; 16]) {
 // The word of a gear and a lamp, the lamp by its number: written as a row where it is one.
 fn sent(gear: u32, number: u32) -> [u8; 16] {
     let mut word: [u8; 16] = [0; 16];
-    let outcome = rows::write_row(toy(), &TOY, gear, number, &mut word);
+    let outcome = rows::write_row(toy(), &TOY, &NOTHING, gear, number, &mut word);
     match outcome {
         Outcome::Done => {
             print(b" is written");

@@ -4,7 +4,6 @@ use field::Elem;
 use field::internal::is_element;
 use field::internal::is_width;
 use signature::signature_fault;
-use slices::LONGEST;
 ghost use mathlib.Core.Path.{_≡_};
 ghost use Prim.Native.Nat.{_≤_};
 ghost use lib.ListN.{length};
@@ -21,15 +20,8 @@ pub struct Parameters {
     pub omega: u32,
 }
 
-// The number for a code, where `buffers` says whether the call's lent buffers have their lengths.
-pub fn code_fault(c: Parameters, h: &[Elem], buffers: bool) -> u32
-    ensures { λ r. ⌜ r ≡ codeFault buffers c (now (h .entry)) ⌝ }
-{
-    let mut inverses: [Elem; LONGEST] = [0; LONGEST];
-    code_fault_inverses(c, h, buffers, &mut inverses)
-}
-
-// The same, and where the number is 0 `inverses` begins with the inverses of the entries.
+// The number for a code, where `buffers` says whether the call's lent buffers have their lengths. Where it is 0 `inverses` begins with the inverses
+// of the entries.
 pub fn code_fault_inverses(c: Parameters, h: &[Elem], buffers: bool, inverses: &mut [Elem]) -> u32
     requires { ⌜ longest ≤ length (now inverses) ⌝ }
     ensures { λ r. ⌜ r ≡ codeFault buffers c (now (h .entry)) ⌝ }

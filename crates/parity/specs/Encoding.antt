@@ -76,7 +76,7 @@ module _ (c : Parameters) (h cols : List ℕ) (W : Width (c .m)) where
   )
 
   -- the parity rows have a basis
-  basis : (rows : ℕ → ℕ → ℕ) × (leads : ℕ → Bool) × Basis (c .m) n (c .t) e rows leads
+  pub basis : (rows : ℕ → ℕ → ℕ) × (leads : ℕ → Bool) × Basis (c .m) n (c .t) e rows leads
   basis =
       let (rows, leads, E, S) =
       echelon-form gf2 gf2-laws n (c .t * c .m) (λ k. bitRow e (k / c .m) (k % c .m)) (λ k l j lj. bitAt-lt (e (k / c .m) j) (k % c .m)) in (

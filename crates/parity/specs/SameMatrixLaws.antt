@@ -56,7 +56,7 @@ module _ {c₁ c₂ : Parameters} {h₁ cols₁ h₂ cols₂ : List ℕ} (M : Sa
       ap (λ (t : ℕ). all t (λ i. eqb (syndromeAt c₁ h₁ cols₁ w i) 0)) (M .rows)
       ∙ all-cong (c₂ .t) (λ i li. ap (λ (x : ℕ). eqb x 0) (syndrome-at w i li))
 
-  message-column : (p : ℕ) → p < length cols₂ → isMessageColumn c₁ h₁ cols₁ p ≡ isMessageColumn c₂ h₂ cols₂ p
+  pub message-column : (p : ℕ) → p < length cols₂ → isMessageColumn c₁ h₁ cols₁ p ≡ isMessageColumn c₂ h₂ cols₂ p
   unfolding isMessageColumn isSum isSumOf
   message-column p lp =
       ap₂ (λ (m t : ℕ). isSum m t (λ i q. parityAt c₁ h₁ i (entryOf cols₁ q)) p) (M .widths) (M .rows)

@@ -60,6 +60,9 @@ pub const SENDER: u32 = 18;
 // A word is offered while that sender has one waiting.
 pub const WAITING: u32 = 19;
 
+// A mark of a place that is neither 0 nor 1, or a hidden check column.
+pub const HIDDEN: u32 = 20;
+
 // The end of a call whose result stands in lent buffers: they are written only where it is Done, but for the counts of a ride.
 pub enum Outcome {
     Done,

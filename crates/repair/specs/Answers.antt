@@ -9,7 +9,7 @@ use lib.ListN.{length}
 use Rattle.refusals.specs.Rules.{Rule, _unless_, fault, unless-refused}
 use Rattle.slices.specs.Bits.{allBits}
 use Rattle.params.specs.declared.Parameters.{Parameters}
-use Rattle.columns.specs.Setting.{Setting, places, columnsOf, settingRules}
+use Rattle.shortened.specs.Setting.{Setting, places, columnsOf, settingRules}
 use Rattle.nearest.specs.Repair.{distance, isRepairable, repairedOf}
 use Rattle.repair.specs.declared.Recovery.{Recovery}
 use Rattle.repair.specs.declared.Recovery.the-variants.{Repaired, Refused}
@@ -25,12 +25,12 @@ module _ (c : Parameters) (h cols received : List ℕ) where
   unfoldable pub turnedCount : ℕ
   turnedCount = distance (length cols) received (repairedOf c h cols received)
 
--- ---- the call, for the whole code or for a selection of its blocks
+-- ---- the call, for the whole code or for a selection of its blocks, each without its hidden places
 
 module _ (c : Parameters) (h : List ℕ) (s : Setting) (received repaired : List ℕ) where
   unfoldable pub repairFault : ℕ
   repairFault =
-      fault (settingRules c h s true (eqb (length received) (places c s) && eqb (length repaired) (places c s))
+      fault (settingRules c h s true (eqb (length received) (places s) && eqb (length repaired) (places s))
       ++ wordRules c h (columnsOf c s) received)
 
   unfoldable pub repairAnswer : Recovery

@@ -10,7 +10,7 @@ ghost use mathlib.Core.Bool.{true};
 ghost use Prim.Native.Nat.{ℕ};
 ghost use Rattle.refusals.specs.declared.Counted.the-variants.{Count};
 ghost use Rattle.signature.specs.Inverses.{Inverted};
-ghost use Rattle.columns.specs.Begun.{Started, Wherever, bothLong};
+ghost use Rattle.shortened.specs.Begun.{Started, Wherever, bothLong};
 ghost use Rattle.repair.specs.Answers.{repairAnswer, repairAfter};
 
 pub fn repair(

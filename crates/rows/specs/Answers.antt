@@ -9,7 +9,7 @@ use Rattle.refusals.specs.declared.Outcome.{Outcome}
 use Rattle.refusals.specs.declared.Outcome.the-variants.{Done, Refused}
 use Rattle.params.specs.declared.Parameters.{Parameters}
 use Rattle.parity.specs.Columns.{dimension, messageOf, encodingOf}
-use Rattle.columns.specs.Setting.{Setting, places, columnsOf, settingRules}
+use Rattle.shortened.specs.Setting.{Setting, places, columnsOf, settingRules}
 use Rattle.nearest.specs.Repair.{repairedOf}
 use Rattle.repair.specs.Answers.{wordRules, turnedCount}
 use Rattle.gears.specs.Rows.{isRow, rowBits, rowMessage, gearIn, lampIn, isRowMessage, rowOf}
@@ -46,12 +46,12 @@ module _ (c : Parameters) (h cols : List ℕ) where
     unfoldable pub readingAfter : List ℕ → List ℕ
     readingAfter repaired = unless-refused (fault readRules) (λ k. repaired) (repairedOf c h cols received)
 
--- ---- the calls, for the whole code or for a selection of its blocks
+-- ---- the calls, for the whole code or for a selection of its blocks, each without its hidden places
 
 module _ (c : Parameters) (h : List ℕ) (s : Setting) where
   module _ (gear lamp : ℕ) (word : List ℕ) where
     unfoldable pub writeFault : ℕ
-    writeFault = fault (settingRules c h s true (eqb (length word) (places c s)) ++ writeRules c h (columnsOf c s) gear lamp)
+    writeFault = fault (settingRules c h s true (eqb (length word) (places s)) ++ writeRules c h (columnsOf c s) gear lamp)
 
     unfoldable pub writeAnswer : Outcome
     writeAnswer = unless-refused writeFault Refused Done
@@ -62,7 +62,7 @@ module _ (c : Parameters) (h : List ℕ) (s : Setting) where
   module _ (received repaired : List ℕ) where
     unfoldable pub readFault : ℕ
     readFault =
-        fault (settingRules c h s true (eqb (length received) (places c s) && eqb (length repaired) (places c s))
+        fault (settingRules c h s true (eqb (length received) (places s) && eqb (length repaired) (places s))
         ++ readRules c h (columnsOf c s) received)
 
     unfoldable pub readAnswer : Reading

@@ -24,9 +24,9 @@ use Rattle.params.specs.Code.{Accepted}
 use Rattle.parity.specs.Columns.{isMessageColumn, dimension, messageOf, encodingOf}
 use Rattle.parity.specs.Encoding.{encoding-carries, encoding-only}
 use Rattle.parity.specs.Selected.{Selected}
-use Rattle.columns.specs.Fits.{Fits}
-use Rattle.columns.specs.Setting.{Setting, places, columnsOf, settingRules}
-use Rattle.columns.specs.SettingLaws.{setting-accepted, setting-leaves, fits-selected, length-columns}
+use Rattle.shortened.specs.Fits.{Fits}
+use Rattle.shortened.specs.Setting.{Setting, places, columnsOf, settingRules}
+use Rattle.shortened.specs.SettingLaws.{setting-accepted, setting-leaves, fits-selected, length-columns}
 use Rattle.nearest.specs.CodeWord.{CodeWord}
 use Rattle.nearest.specs.Demand.{near-unique, repaired-code-word, repaired-within}
 use Rattle.nearest.specs.Repair.{distance, isRepairable, repairedOf}
@@ -192,12 +192,12 @@ module _ (c : Parameters) (h cols received : List ℕ) {row : Row} {turned : ℕ
 
 -- ---- reading by the call, for an accepted code: it ends as for the columns of its setting
 
-module _ {c : Parameters} {h : List ℕ} (A : Accepted c h) (s : Setting) (F : Fits c s) (received repaired : List ℕ)
-    (long : length received ≡ places c s) (lent : length repaired ≡ places c s) where
+module _ {c : Parameters} {h : List ℕ} (A : Accepted c h) (s : Setting) (F : Fits c h s) (received repaired : List ℕ)
+    (long : length received ≡ places s) (lent : length repaired ≡ places s) where
   read-rules : readFault c h s received repaired ≡ fault (readRules c h (columnsOf c s) received)
   unfolding readFault
   read-rules =
-      setting-leaves A s F refl (both-hold (eq-eqb (length received) (places c s) long) (eq-eqb (length repaired) (places c s) lent))
+      setting-leaves A s F refl (both-hold (eq-eqb (length received) (places s) long) (eq-eqb (length repaired) (places s) lent))
       (readRules c h (columnsOf c s) received)
 
   pub answer-is : readAnswer c h s received repaired ≡ readingAnswer c h (columnsOf c s) received
@@ -210,8 +210,8 @@ module _ {c : Parameters} {h : List ℕ} (A : Accepted c h) (s : Setting) (F : F
 
 -- ---- what is written is read
 
-module _ {c : Parameters} {h : List ℕ} (A : Accepted c h) (s : Setting) (F : Fits c s) (wide : rowBits ≤ dimension c h (columnsOf c s))
-    (gear lamp : ℕ) (allowed : isRow gear lamp ≡ true) (word : List ℕ) (lent : length word ≡ places c s) where
+module _ {c : Parameters} {h : List ℕ} (A : Accepted c h) (s : Setting) (F : Fits c h s) (wide : rowBits ≤ dimension c h (columnsOf c s))
+    (gear lamp : ℕ) (allowed : isRow gear lamp ≡ true) (word : List ℕ) (lent : length word ≡ places s) where
   abbrev S : Selected (c .n) (columnsOf c s)
   S = fits-selected A s F
 
@@ -221,7 +221,7 @@ module _ {c : Parameters} {h : List ℕ} (A : Accepted c h) (s : Setting) (F : F
   write-none : writeFault c h s gear lamp word ≡ 0
   unfolding writeFault
   write-none =
-      setting-leaves A s F refl (eq-eqb (length word) (places c s) lent) (writeRules c h (columnsOf c s) gear lamp)
+      setting-leaves A s F refl (eq-eqb (length word) (places s) lent) (writeRules c h (columnsOf c s) gear lamp)
       ∙ write-passes A S wide gear lamp allowed
 
   -- every allowed row is written
@@ -233,19 +233,19 @@ module _ {c : Parameters} {h : List ℕ} (A : Accepted c h) (s : Setting) (F : F
   unfolding writeAfter
   written-is = given (λ i. word) (rowWord c h (columnsOf c s) gear lamp) write-none
 
-  module _ {received : List ℕ} (bits : IsBits (places c s) received) (repaired : List ℕ) (lent′ : length repaired ≡ places c s)
-      (near : distance (places c s) received written ≤ c .t) where
+  module _ {received : List ℕ} (bits : IsBits (places s) received) (repaired : List ℕ) (lent′ : length repaired ≡ places s)
+      (near : distance (places s) received written ≤ c .t) where
     bits′ : IsBits (length (columnsOf c s)) received
     bits′ = subst (λ (i : ℕ). IsBits i received) (sym (length-columns c s)) bits
 
-    distances : distance (length (columnsOf c s)) received (rowWord c h (columnsOf c s) gear lamp) ≡ distance (places c s) received written
+    distances : distance (length (columnsOf c s)) received (rowWord c h (columnsOf c s) gear lamp) ≡ distance (places s) received written
     distances = ap₂ (λ (i : ℕ) (w : List ℕ). distance i received w) (length-columns c s) (sym written-is)
 
     near′ : distance (length (columnsOf c s)) received (rowWord c h (columnsOf c s) gear lamp) ≤ c .t
     near′ = subst (λ (d : ℕ). d ≤ c .t) (sym distances) near
 
     -- a row with at most t bits turned is read as that row, with the number of them
-    pub turned-read : readAnswer c h s received repaired ≡ Read (rowOf gear lamp) (distance (places c s) received written)
+    pub turned-read : readAnswer c h s received repaired ≡ Read (rowOf gear lamp) (distance (places s) received written)
     turned-read =
         answer-is A s F received repaired (bits .long) lent′ ∙ near-read A S wide gear lamp allowed bits′ near′
         ∙ ap (Read (rowOf gear lamp)) distances
@@ -255,14 +255,14 @@ module _ {c : Parameters} {h : List ℕ} (A : Accepted c h) (s : Setting) (F : F
     turned-repaired =
         after-is A s F received repaired (bits .long) lent′ ∙ near-after A S wide gear lamp allowed bits′ near′ repaired ∙ sym written-is
 
-  pub written-bits : IsBits (places c s) written
+  pub written-bits : IsBits (places s) written
   written-bits =
       subst₂ IsBits (length-columns c s) (sym written-is) (row-word A S wide gear lamp allowed .0 .bits)
 
   -- a written row is read as it was written
-  pub written-read : (repaired : List ℕ) → length repaired ≡ places c s → readAnswer c h s written repaired ≡ Read (rowOf gear lamp) 0
+  pub written-read : (repaired : List ℕ) → length repaired ≡ places s → readAnswer c h s written repaired ≡ Read (rowOf gear lamp) 0
   written-read repaired lent′ =
-      let none = distance-self (places c s) written in
+      let none = distance-self (places s) written in
       turned-read written-bits repaired lent′ (subst (λ (d : ℕ). d ≤ c .t) (sym none) (omega arith)) ∙ ap (Read (rowOf gear lamp)) none
 
 -- ---- what is read
@@ -270,18 +270,18 @@ module _ {c : Parameters} {h : List ℕ} (A : Accepted c h) (s : Setting) (F : F
 module _ (c : Parameters) (h : List ℕ) (s : Setting) (received repaired : List ℕ) {row : Row} {turned : ℕ}
     (e : readAnswer c h s received repaired ≡ Read row turned) where
   abbrev Lengths : Type 0
-  Lengths = (length received ≡ places c s) × (length repaired ≡ places c s)
+  Lengths = (length received ≡ places s) × (length repaired ≡ places s)
 
   -- the code was accepted, and the selection, and both buffers have an entry for each place
-  code : Accepted c h × Fits c s × Lengths
+  code : Accepted c h × Fits c h s × Lengths
   unfolding readAnswer readFault
   code =
-      let B = (eqb (length received) (places c s) && eqb (length repaired) (places c s)) in
+      let B = (eqb (length received) (places s) && eqb (length repaired) (places s)) in
       let none = read-is (readFault c h s received repaired) e .0 in
       let (others, words, A, F) =
       setting-accepted c h s true B (first-holds (settingRules c h s true B) (readRules c h (columnsOf c s) received) none) in
-      let (r, w) = both-true (eqb (length received) (places c s)) (eqb (length repaired) (places c s)) words in
-      (A, F, (eqb-true (length received) (places c s) r, eqb-true (length repaired) (places c s) w))
+      let (r, w) = both-true (eqb (length received) (places s)) (eqb (length repaired) (places s)) words in
+      (A, F, (eqb-true (length received) (places s) r, eqb-true (length repaired) (places s) w))
 
   reading : readingAnswer c h (columnsOf c s) received ≡ Read row turned
   reading =
@@ -295,7 +295,7 @@ module _ (c : Parameters) (h : List ℕ) (s : Setting) (received repaired : List
   read-allowed = reading-allowed c h (columnsOf c s) received reading
 
   -- with the number of places in which the word received differs from what the second buffer then holds
-  pub read-counted : turned ≡ distance (places c s) received (readAfter c h s received repaired)
+  pub read-counted : turned ≡ distance (places s) received (readAfter c h s received repaired)
   unfolding turnedCount readingAnswer readingAfter
   read-counted =
       let (A, F, (r, w)) = code in
@@ -309,7 +309,7 @@ module _ (c : Parameters) (h : List ℕ) (s : Setting) (received repaired : List
   read-within = (code .0, reading-within c h (columnsOf c s) received reading (code .0) (fits-selected (code .0) s (code .1)) long)
 
   -- the second buffer then holds the word that is written for that row
-  pub read-repaired : (word : List ℕ) → length word ≡ places c s
+  pub read-repaired : (word : List ℕ) → length word ≡ places s
       → readAfter c h s received repaired ≡ writeAfter c h s (row .gear) (lampNumber (row .lamp)) word
   read-repaired word lent =
       let (A, F, (r, w)) = code in

@@ -14,7 +14,7 @@ ghost use lib.Dec.{eqb};
 ghost use lib.ListN.{length};
 ghost use Rattle.refusals.specs.declared.Counted.the-variants.{Count};
 ghost use Rattle.signature.specs.Inverses.{Inverted};
-ghost use Rattle.columns.specs.Begun.{Started, Wherever, bothLong};
+ghost use Rattle.shortened.specs.Begun.{Started, Wherever, bothLong};
 ghost use Rattle.rows.specs.Answers.{writeAnswer, writeAfter, readAnswer, readAfter};
 
 pub fn write_row(

@@ -19,9 +19,9 @@ use Rattle.refusals.specs.Rules.{Rule, fault}
 use Rattle.refusals.specs.RuleLaws.{hold}
 use Rattle.refusals.specs.declared.Counted.{Counted}
 use Rattle.params.specs.declared.Parameters.{Parameters}
-use Rattle.columns.specs.Begun.{Begun}
-use Rattle.columns.specs.BegunLaws.{begun-as}
-use Rattle.columns.specs.Setting.{Setting.wholeCode}
+use Rattle.shortened.specs.Begun.{Begun}
+use Rattle.shortened.specs.BegunLaws.{begun-as, begun-sent}
+use Rattle.shortened.specs.Setting.{Setting, places}
 use Rattle.scheduler.specs.declared.Dash.{Dash}
 use Rattle.scheduler.specs.State.{dashRules, offerRules}
 use Rattle.scheduler.specs.Answers.{startLengths, offerLengths}
@@ -84,12 +84,14 @@ offer-lent d word waiting words n marks t =
       },
     )
 
--- a call that began with the length of all words tested as r
-pub offer-began : (d : Dash) (word words : List ℕ) {c : Parameters} {h : List ℕ} {others r : Bool} {columns : List ℕ} {found : Counted}
-    → Begun c h wholeCode others (eqb (length word) (c .n) && r) columns found → r ≡ eqb (length words) (d .senders * c .n)
-    → Begun c h wholeCode others (offerLengths d word words (c .n)) columns found
+-- a call that counted n sent places, and began with the length of all words tested as r
+pub offer-began : (d : Dash) (word words : List ℕ) {c : Parameters} {h : List ℕ} {s : Setting} {others r : Bool} {n : ℕ} {columns : List ℕ}
+    {found : Counted}
+    → Begun c h s others (eqb (length word) n && r) columns found → r ≡ eqb (length words) (d .senders * n) → n ≡ places s
+    → Begun c h s others (offerLengths d word words (places s)) columns found
 unfolding offerLengths
-offer-began d word words {c = c} B e = begun-as B (ap (λ (b : Bool). eqb (length word) (c .n) && b) e)
+offer-began d word words {n = n} B e counted =
+    begun-sent (λ k. eqb (length word) k && eqb (length words) (d .senders * k)) (begun-as B (ap (λ (b : Bool). eqb (length word) n && b) e)) counted
 
 module _ (d : Dash) (sender : ℕ) (word waiting words : List ℕ) {k : ℕ} (due : k ≡ fault (dashRules d ++ offerRules d sender word waiting)) where
   pub offer-refused : k ≢ 0 → OfferEnded d sender word waiting words k waiting words

@@ -18,9 +18,9 @@ use Rattle.slices.specs.BitLaws.{received-bits}
 use Rattle.params.specs.declared.Parameters.{Parameters}
 use Rattle.parity.specs.Word.{isCodeWord}
 use Rattle.repair.specs.Decoding.{wordAnswer, wordAfter}
-use Rattle.columns.specs.Begun.{Begun}
-use Rattle.columns.specs.BegunLaws.{begun-as}
-use Rattle.columns.specs.Setting.{Setting.wholeCode}
+use Rattle.shortened.specs.Begun.{Begun}
+use Rattle.shortened.specs.BegunLaws.{begun-as, begun-sent}
+use Rattle.shortened.specs.Setting.{Setting, places}
 use Rattle.turns.specs.Turns.{othersBefore, turnOf, isTried, nextTurn}
 use Rattle.turns.specs.TurnLaws.{tried-same, next-same}
 use Rattle.turns.specs.Marks.{stays, codeWord, other, isOther as marked, markAfter, marksAfter, turnAfterMarks}
@@ -222,11 +222,13 @@ module _ (c : Parameters) (h cols : List ℕ) {d : Dash} {σ : State} {answers h
 
 -- ---- the call
 
--- a call that began with the lengths of the words and of those that are handed out tested as q and r
-pub round-began : (d : Dash) (σ : State) (answers handed : List ℕ) {c : Parameters} {h : List ℕ} {q r : Bool} {columns : List ℕ} {found : Counted}
-    → Begun c h wholeCode (eqb (length (σ .waiting)) (d .senders) && eqb (length (σ .next)) 1 && eqb (length answers) (d .senders))
-    (q && r) columns found
-    → q ≡ eqb (length (σ .words)) (d .senders * c .n) → r ≡ eqb (length handed) (d .senders * c .n)
-    → Begun c h wholeCode (roundLengths d σ answers) (roundWords d σ handed (c .n)) columns found
+-- a call that counted n sent places, and began with the lengths of the words and of those that are handed out tested as q and r
+pub round-began : (d : Dash) (σ : State) (answers handed : List ℕ) {c : Parameters} {h : List ℕ} {s : Setting} {q r : Bool} {n : ℕ} {columns : List ℕ}
+    {found : Counted}
+    → Begun c h s (eqb (length (σ .waiting)) (d .senders) && eqb (length (σ .next)) 1 && eqb (length answers) (d .senders)) (q && r) columns found
+    → q ≡ eqb (length (σ .words)) (d .senders * n) → r ≡ eqb (length handed) (d .senders * n) → n ≡ places s
+    → Begun c h s (roundLengths d σ answers) (roundWords d σ handed (places s)) columns found
 unfolding roundLengths roundWords
-round-began d σ answers handed B e f = begun-as B (ap₂ (λ (a b : Bool). a && b) e f)
+round-began d σ answers handed B e f counted =
+    begun-sent (λ k. eqb (length (σ .words)) (d .senders * k) && eqb (length handed) (d .senders * k))
+    (begun-as B (ap₂ (λ (a b : Bool). a && b) e f)) counted

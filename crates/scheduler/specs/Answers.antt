@@ -9,7 +9,7 @@ use Rattle.refusals.specs.Rules.{Rule, fault, unless-refused}
 use Rattle.refusals.specs.declared.Outcome.{Outcome}
 use Rattle.refusals.specs.declared.Outcome.the-variants.{Done, Refused}
 use Rattle.params.specs.declared.Parameters.{Parameters}
-use Rattle.columns.specs.Setting.{Setting, places, columnsOf, settingRules}
+use Rattle.shortened.specs.Setting.{Setting, places, columnsOf, settingRules}
 use Rattle.scheduler.specs.declared.Dash.{Dash}
 use Rattle.scheduler.specs.State.{State, dashRules, offerRules, stateRules}
 use Rattle.scheduler.specs.Round.{roundWaiting, roundNext, roundAnswers, roundHanded}
@@ -44,7 +44,7 @@ offerLengths d word words n = eqb (length word) n && eqb (length words) (d .send
 module _ (c : Parameters) (h : List ℕ) (s : Setting) (d : Dash) (sender : ℕ) (word waiting words : List ℕ) where
   unfoldable pub offerFault : ℕ
   offerFault =
-      fault (settingRules c h s (eqb (length waiting) (d .senders)) (offerLengths d word words (places c s))
+      fault (settingRules c h s (eqb (length waiting) (d .senders)) (offerLengths d word words (places s))
       ++ (dashRules d ++ offerRules d sender word waiting))
 
   unfoldable pub offerAnswer : Outcome
@@ -54,7 +54,7 @@ module _ (c : Parameters) (h : List ℕ) (s : Setting) (d : Dash) (sender : ℕ)
   offerWaiting = unless-refused offerFault (λ k. waiting) (set waiting sender 1)
 
   unfoldable pub offerWords : List ℕ
-  offerWords = unless-refused offerFault (λ k. words) (withPart (places c s) words sender word)
+  offerWords = unless-refused offerFault (λ k. words) (withPart (places s) words sender word)
 
 -- ---- a round
 
@@ -71,7 +71,7 @@ roundRules d σ cols = dashRules d ++ stateRules d (length cols) σ
 module _ (c : Parameters) (h : List ℕ) (s : Setting) (d : Dash) (σ : State) (answers handed : List ℕ) where
   unfoldable pub roundFault : ℕ
   roundFault =
-      fault (settingRules c h s (roundLengths d σ answers) (roundWords d σ handed (places c s)) ++ roundRules d σ (columnsOf c s))
+      fault (settingRules c h s (roundLengths d σ answers) (roundWords d σ handed (places s)) ++ roundRules d σ (columnsOf c s))
 
   unfoldable pub roundAnswer : Outcome
   roundAnswer = unless-refused roundFault Refused Done

@@ -7,7 +7,7 @@ use lib.Dec.{eqb}
 use Rattle.algebra.specs.Lists.{entryOf}
 use Rattle.refusals.specs.declared.Outcome.the-variants.{Done}
 use Rattle.params.specs.declared.Parameters.{Parameters}
-use Rattle.columns.specs.Setting.{Setting}
+use Rattle.shortened.specs.Setting.{Setting}
 use Rattle.scheduler.specs.declared.Dash.{Dash}
 use Rattle.scheduler.specs.State.{State, stateOf}
 use Rattle.scheduler.specs.Round.{none}

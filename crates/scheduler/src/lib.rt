@@ -7,21 +7,22 @@ mod faults;
 mod rounds;
 
 use basis::Column;
-use columns::Lent;
 use columns::is_parts_length;
-use columns::whole_code;
-use columns::whole_code_inverses;
 use field::Elem;
 use params::Parameters;
 use refusals::Counted;
 use refusals::Outcome;
 use refusals::ended;
+use shortened::Lent;
+use shortened::sent_places;
+use shortened::whole_code;
+use shortened::whole_code_inverses;
 use slices::LONGEST;
 use slices::copy_bits;
 ghost use mathlib.Core.Path.{_≡_};
 ghost use Prim.Native.Nat.{_*_};
 ghost use lib.ListN.{length, replicate};
-ghost use Rattle.columns.specs.Setting.{Setting.wholeCode};
+ghost use Rattle.shortened.specs.Setting.{shortCode};
 ghost use Rattle.scheduler.specs.State.{stateOf};
 ghost use Rattle.scheduler.specs.Answers.{startAnswer, startWaiting, startNext, offerAnswer, offerWaiting, offerWords};
 ghost use Rattle.scheduler.specs.Answers.{roundAnswer, waitingAfter, nextAfter, answersAfter, handedAfter};
@@ -42,17 +43,26 @@ pub struct Dash {
 }
 
 // Starts a dash: no word waits, and it is the turn of sender 0.
-pub fn start(c: Parameters, h: &[Elem], d: Dash, waiting: &mut [u8], next: &mut [u32]) -> Outcome
-    ensures { λ r. ⌜ r ≡ startAnswer c (now (h .entry)) wholeCode d (now (waiting .entry)) (now (next .entry)) ⌝ }
-    ensures { λ _. ⌜ now (waiting .exit) ≡ startWaiting c (now (h .entry)) wholeCode d (now (waiting .entry)) (now (next .entry)) ⌝ }
-    ensures { λ _. ⌜ now (next .exit) ≡ startNext c (now (h .entry)) wholeCode d (now (waiting .entry)) (now (next .entry)) ⌝ }
+pub fn start(
+    c: Parameters,
+    h: &[Elem],
+    hidden: &[u8],
+    d: Dash,
+    waiting: &mut [u8],
+    next: &mut [u32],
+) -> Outcome
+    ensures { λ r. ⌜ r ≡ startAnswer c (now (h .entry)) (shortCode (now (hidden .entry))) d (now (waiting .entry)) (now (next .entry)) ⌝ }
+    ensures { λ _.
+        ⌜ now (waiting .exit) ≡ startWaiting c (now (h .entry)) (shortCode (now (hidden .entry))) d (now (waiting .entry)) (now (next .entry)) ⌝ }
+    ensures { λ _.
+        ⌜ now (next .exit) ≡ startNext c (now (h .entry)) (shortCode (now (hidden .entry))) d (now (waiting .entry)) (now (next .entry)) ⌝ }
 {
     let lent = Lent {
         others: (waiting.len() == d.senders as usize) & (next.len() == 1),
         words: true,
     };
     let mut columns: [Column; LONGEST] = [0; LONGEST];
-    let found = whole_code(c, h, lent, &mut columns);
+    let found = whole_code(c, h, hidden, lent, &mut columns);
     match found {
         Counted::Refused(number) => Outcome::Refused(number),
         Counted::Count(_) => ended(start_on(d, waiting, next)),
@@ -86,6 +96,7 @@ fn clear(waiting: &mut [u8])
 pub fn offer(
     c: Parameters,
     h: &[Elem],
+    hidden: &[u8],
     d: Dash,
     sender: u32,
     word: &[u8],
@@ -93,21 +104,24 @@ pub fn offer(
     words: &mut [u8],
 ) -> Outcome
     ensures { λ r.
-        ⌜ r ≡ offerAnswer c (now (h .entry)) wholeCode d sender (now (word .entry)) (now (waiting .entry)) (now (words .entry)) ⌝ }
+        ⌜ r ≡ offerAnswer c (now (h .entry)) (shortCode (now (hidden .entry))) d sender (now (word .entry)) (now (waiting .entry))
+        (now (words .entry)) ⌝ }
     ensures { λ _.
         ⌜ now (waiting .exit)
-        ≡ offerWaiting c (now (h .entry)) wholeCode d sender (now (word .entry)) (now (waiting .entry)) (now (words .entry)) ⌝ }
+        ≡ offerWaiting c (now (h .entry)) (shortCode (now (hidden .entry))) d sender (now (word .entry)) (now (waiting .entry))
+        (now (words .entry)) ⌝ }
     ensures { λ _.
         ⌜ now (words .exit)
-        ≡ offerWords c (now (h .entry)) wholeCode d sender (now (word .entry)) (now (waiting .entry)) (now (words .entry)) ⌝ }
+        ≡ offerWords c (now (h .entry)) (shortCode (now (hidden .entry))) d sender (now (word .entry)) (now (waiting .entry)) (now (words .entry)) ⌝ }
 {
     let senders = d.senders as usize;
+    let n = sent_places(hidden);
     let lent = Lent {
         others: waiting.len() == senders,
-        words: (word.len() == c.n as usize) & is_parts_length(words.len(), senders, c.n),
+        words: (word.len() == n) & is_parts_length(words.len(), senders, n),
     };
     let mut columns: [Column; LONGEST] = [0; LONGEST];
-    let found = whole_code(c, h, lent, &mut columns);
+    let found = whole_code(c, h, hidden, lent, &mut columns);
     match found {
         Counted::Refused(number) => Outcome::Refused(number),
         Counted::Count(_) => ended(offer_on(d, sender as usize, word, waiting, words)),
@@ -135,6 +149,7 @@ fn offer_on(d: Dash, sender: usize, word: &[u8], waiting: &mut [u8], words: &mut
 pub fn round(
     c: Parameters,
     h: &[Elem],
+    hidden: &[u8],
     d: Dash,
     waiting: &mut [u8],
     words: &[u8],
@@ -144,36 +159,39 @@ pub fn round(
 ) -> Outcome
     ensures { λ r.
         ⌜ r
-        ≡ roundAnswer c (now (h .entry)) wholeCode d (stateOf (now (waiting .entry)) (now (words .entry)) (now (next .entry)))
+        ≡ roundAnswer c (now (h .entry)) (shortCode (now (hidden .entry))) d (stateOf (now (waiting .entry)) (now (words .entry)) (now (next .entry)))
         (now (answers .entry)) (now (handed .entry)) ⌝ }
     ensures { λ _.
         ⌜ now (waiting .exit)
-        ≡ waitingAfter c (now (h .entry)) wholeCode d (stateOf (now (waiting .entry)) (now (words .entry)) (now (next .entry)))
+        ≡ waitingAfter c (now (h .entry)) (shortCode (now (hidden .entry))) d (stateOf (now (waiting .entry)) (now (words .entry))
+        (now (next .entry)))
         (now (answers .entry)) (now (handed .entry)) ⌝ }
     ensures { λ _.
         ⌜ now (next .exit)
-        ≡ nextAfter c (now (h .entry)) wholeCode d (stateOf (now (waiting .entry)) (now (words .entry)) (now (next .entry)))
+        ≡ nextAfter c (now (h .entry)) (shortCode (now (hidden .entry))) d (stateOf (now (waiting .entry)) (now (words .entry)) (now (next .entry)))
         (now (answers .entry)) (now (handed .entry)) ⌝ }
     ensures { λ _.
         ⌜ now (answers .exit)
-        ≡ answersAfter c (now (h .entry)) wholeCode d (stateOf (now (waiting .entry)) (now (words .entry)) (now (next .entry)))
+        ≡ answersAfter c (now (h .entry)) (shortCode (now (hidden .entry))) d (stateOf (now (waiting .entry)) (now (words .entry))
+        (now (next .entry)))
         (now (answers .entry)) (now (handed .entry)) ⌝ }
     ensures { λ _.
         ⌜ now (handed .exit)
-        ≡ handedAfter c (now (h .entry)) wholeCode d (stateOf (now (waiting .entry)) (now (words .entry)) (now (next .entry)))
+        ≡ handedAfter c (now (h .entry)) (shortCode (now (hidden .entry))) d (stateOf (now (waiting .entry)) (now (words .entry)) (now (next .entry)))
         (now (answers .entry)) (now (handed .entry)) ⌝ }
 {
     let senders = d.senders as usize;
     let others = (waiting.len() == senders) & (next.len() == 1) & (answers.len() == senders);
-    let words_long = is_parts_length(words.len(), senders, c.n);
-    let handed_long = is_parts_length(handed.len(), senders, c.n);
+    let n = sent_places(hidden);
+    let words_long = is_parts_length(words.len(), senders, n);
+    let handed_long = is_parts_length(handed.len(), senders, n);
     let lent = Lent {
         others,
         words: words_long & handed_long,
     };
     let mut inverses: [Elem; LONGEST] = [0; LONGEST];
     let mut columns: [Column; LONGEST] = [0; LONGEST];
-    let found = whole_code_inverses(c, h, lent, &mut inverses, &mut columns);
+    let found = whole_code_inverses(c, h, hidden, lent, &mut inverses, &mut columns);
     match found {
         Counted::Refused(number) => Outcome::Refused(number),
         Counted::Count(n) => ended(rounds::round_on(

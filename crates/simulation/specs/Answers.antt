@@ -9,7 +9,7 @@ use Rattle.refusals.specs.declared.Outcome.{Outcome}
 use Rattle.refusals.specs.declared.Outcome.the-variants.{Done, Refused}
 use Rattle.params.specs.declared.Parameters.{Parameters}
 use Rattle.parity.specs.Columns.{dimension}
-use Rattle.columns.specs.Setting.{Setting, places, columnsOf, settingRules}
+use Rattle.shortened.specs.Setting.{Setting, places, columnsOf, settingRules}
 use Rattle.gears.specs.Rows.{rowBits}
 use Rattle.simulation.specs.Steps.{Steps, stepCount, stepsRules}
 use Rattle.simulation.specs.Ride.{rideCounts}
@@ -43,7 +43,7 @@ module _ (c : Parameters) (h cols : List ℕ) where
 
 module _ (c : Parameters) (h : List ℕ) (s : Setting) (σ : Steps) (counts : List ℕ) where
   abbrev lentRules : List Rule
-  lentRules = settingRules c h s (rideLengths σ counts) (marksLong σ (places c s))
+  lentRules = settingRules c h s (rideLengths σ counts) (marksLong σ (places s))
 
   unfoldable pub rideFault : ℕ
   rideFault = fault (lentRules ++ rideRules c h (columnsOf c s) σ)

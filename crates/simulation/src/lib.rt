@@ -6,9 +6,7 @@ mod steps;
 
 use basis::Column;
 use basis::packed::ROW;
-use columns::Lent;
 use columns::is_parts_length;
-use columns::whole_code_inverses;
 use field::Elem;
 use gears::ROW_BITS;
 use messages::code_basis;
@@ -16,12 +14,15 @@ use params::Parameters;
 use refusals::Counted;
 use refusals::Outcome;
 use refusals::ended;
+use shortened::Lent;
+use shortened::sent_places;
+use shortened::whole_code_inverses;
 use slices::LONGEST;
 ghost use mathlib.Core.Path.{_≡_};
 ghost use lib.ListN.{length};
 ghost use Rattle.signature.specs.Inverses.{Inverted};
 ghost use Rattle.parity.specs.Selected.{OnColumns};
-ghost use Rattle.columns.specs.Setting.{Setting.wholeCode};
+ghost use Rattle.shortened.specs.Setting.{shortCode};
 ghost use Rattle.simulation.specs.Steps.{stepsOf};
 ghost use Rattle.simulation.specs.Answers.{rideAnswer, rideAfter};
 ghost use Rattle.simulation.specs.Lent.{LentSteps};
@@ -42,6 +43,7 @@ pub enum Verdict {
 pub fn ride(
     c: Parameters,
     h: &[Elem],
+    hidden: &[u8],
     gears: &[u8],
     lamps: &[u8],
     turned: &[u8],
@@ -49,20 +51,22 @@ pub fn ride(
 ) -> Outcome
     ensures { λ r.
         ⌜ r
-        ≡ rideAnswer c (now (h .entry)) wholeCode (stepsOf (now (gears .entry)) (now (lamps .entry)) (now (turned .entry))) (now (counts .entry)) ⌝ }
+        ≡ rideAnswer c (now (h .entry)) (shortCode (now (hidden .entry))) (stepsOf (now (gears .entry)) (now (lamps .entry)) (now (turned .entry)))
+        (now (counts .entry)) ⌝ }
     ensures { λ _.
         ⌜ now (counts .exit)
-        ≡ rideAfter c (now (h .entry)) wholeCode (stepsOf (now (gears .entry)) (now (lamps .entry)) (now (turned .entry))) (now (counts .entry)) ⌝ }
+        ≡ rideAfter c (now (h .entry)) (shortCode (now (hidden .entry))) (stepsOf (now (gears .entry)) (now (lamps .entry)) (now (turned .entry)))
+        (now (counts .entry)) ⌝ }
 {
     let count = gears.len();
     let others = (count <= LONGEST_RIDE) & (lamps.len() == count) & (counts.len() == steps::COUNTS);
     let lent = Lent {
         others,
-        words: is_parts_length(turned.len(), count, c.n),
+        words: is_parts_length(turned.len(), count, sent_places(hidden)),
     };
     let mut inverses: [Elem; LONGEST] = [0; LONGEST];
     let mut columns: [Column; LONGEST] = [0; LONGEST];
-    let found = whole_code_inverses(c, h, lent, &mut inverses, &mut columns);
+    let found = whole_code_inverses(c, h, hidden, lent, &mut inverses, &mut columns);
     match found {
         Counted::Refused(number) => Outcome::Refused(number),
         Counted::Count(n) => ended(ride_on(

@@ -16,8 +16,8 @@ use Rattle.algebra.specs.Gf2.{gf2}
 use Rattle.algebra.specs.Gf2Laws.{gf2-laws}
 use Rattle.algebra.specs.Echelon.{rest, rest-cong}
 use Rattle.algebra.specs.Lists.{entryOf}
-use Rattle.algebra.specs.Places.{count, chosen}
-use Rattle.algebra.specs.PlaceLaws.{length-chosen}
+use Rattle.algebra.specs.Places.{count}
+use Rattle.algebra.specs.Subsequence.{count-turn, count-below}
 use Rattle.algebra.specs.Sum.{sum}
 use Rattle.algebra.specs.SumLaws.{in-sum}
 use Rattle.algebra.specs.Filling.{Filling, filling-start, filling-turn}
@@ -37,38 +37,6 @@ led leads p e = ap not (eq-eqb (entryOf leads p) 1 e)
 pub free : (leads : List ℕ) (p : ℕ) → entryOf leads p ≢ 1 → freeAt leads p ≡ true
 unfolding freeAt leadAt
 free leads p ne = ap not (ne-eqb (entryOf leads p) 1 ne)
-
--- ---- counting and choosing by a test of the places
-
-module _ (f : ℕ → Bool) where
-  count-turn : (p : ℕ) (b : Bool) → f p ≡ b → count (p + 1) f ≡ cond b (count p f + 1) (count p f)
-  unfolding count
-  count-turn p true e = ap (λ (k : ℕ). count k f) (add-one p) ∙ ap (λ (b : Bool). count p f + cond b 1 0) e
-  count-turn p false e = ap (λ (k : ℕ). count k f) (add-one p) ∙ ap (λ (b : Bool). count p f + cond b 1 0) e ∙ add-zero (count p f)
-
-  chosen-turn : (w : ℕ → ℕ) (p : ℕ) (b : Bool) → f p ≡ b → chosen (p + 1) f w ≡ chosen p f w ++ cond b (w p ∷ []) []
-  unfolding chosen
-  chosen-turn w p b e = ap (λ (k : ℕ). chosen k f w) (add-one p) ∙ ap (λ (b : Bool). chosen p f w ++ cond b (w p ∷ []) []) e
-
-  pub count-mono : (p n : ℕ) → p ≤ n → count p f ≤ count n f
-  unfolding count
-  count-mono p zero h = subst (λ (k : ℕ). count k f ≤ 0) (sym (lowest p h)) (le-refl 0)
-    where
-      lowest : (p : ℕ) → p ≤ 0 → p ≡ 0
-      lowest p h = omega arith
-  count-mono p (suc n) h = decided (ℕ-discrete p (suc n)) (count-mono p n)
-    where
-      decided : Dec (p ≡ suc n) → (p ≤ n → count p f ≤ count n f) → count p f ≤ count (suc n) f
-      decided (yes e) ih = le-of-eq (ap (λ (k : ℕ). count k f) e)
-      decided (no ne) ih =
-          let before : count p f ≤ count n f = ih (omega arith) in omega arith
-
-  -- a free place below n is itself counted below n, and not before it
-  pub count-below : (p n : ℕ) → p < n → f p ≡ true → count p f < count n f
-  count-below p n l e =
-      let next : count (p + 1) f ≡ count p f + 1 = count-turn p true e in
-      let after : count (p + 1) f ≤ count n f = count-mono (p + 1) n (omega arith) in
-      omega arith
 
 -- ---- `roles` and `place`: a value at each free place, and 0 at the others
 
@@ -112,84 +80,6 @@ module _ {message leads old now : List ℕ} {taken p : ℕ} (P : Placing message
             filling-place leads (placed message leads) (P .filling) l b e
             (s ∙ ap (λ (k : ℕ). set now p (cond b (entryOf message k) 0)) (P .number));
       }
-
--- ---- `take_out`: the entries at the free places passed, and what of the message is still as it was
-
-unfoldable pub takenOut : List ℕ → List ℕ → List ℕ → ℕ → List ℕ
-takenOut word leads old p = chosen p (freeAt leads) (entryOf word) ++ drop (count p (freeAt leads)) old
-
--- the free places before p are taken out
-pub record Taking (word leads old now : List ℕ) (taken p : ℕ) : Type 0 where
-  pub bound : p ≤ length word
-  pub long : length old ≡ count (length word) (freeAt leads)
-  pub number : taken ≡ count p (freeAt leads)
-  pub so-far : now ≡ takenOut word leads old p
-
-pub take-start : (word leads old : List ℕ) → length old ≡ count (length word) (freeAt leads) → Taking word leads old old 0 0
-unfolding takenOut chosen count
-take-start word leads old h = record { bound = omega arith; long = h; number = refl; so-far = refl }
-
-module _ {word leads old now : List ℕ} {taken p : ℕ} (T : Taking word leads old now taken p) where
-  f : ℕ → Bool
-  f = freeAt leads
-
-  pub take-length : length now ≡ length old
-  unfolding takenOut f
-  take-length =
-      let fewer : count p f ≤ count (length word) f = count-mono f p (length word) (T .bound) in
-      let long : length old ≡ count (length word) f = T .long in
-      ap length (T .so-far) ∙ length-append (chosen p f (entryOf word)) (drop (count p f) old)
-      ∙ ap₂ (λ (x y : ℕ). x + y) (length-chosen p f (entryOf word)) (length-drop (count p f) old) ∙ omega arith
-
-  -- a place of the message is left for a free place
-  pub take-index : p < length word → entryOf leads p ≢ 1 → taken < length now
-  unfolding f
-  take-index l ne =
-      let fewer : count p f < count (length word) f = count-below f p (length word) l (free leads p ne) in
-      subst₂ (λ (x y : ℕ). x < y) (sym (T .number)) (sym (take-length ∙ T .long)) fewer
-
-  pub take-led : {next : List ℕ} {taken′ : ℕ} → p < length word → entryOf leads p ≡ 1 → next ≡ now → taken′ ≡ taken
-      → Taking word leads old next taken′ (p + 1)
-  unfolding takenOut f
-  take-led l e s t =
-      let past : count p f ≡ count (p + 1) f = sym (count-turn f p false (led leads p e)) in
-      record {
-        bound = omega arith;
-        long = T .long;
-        number = t ∙ T .number ∙ past;
-        so-far =
-            s ∙ T .so-far
-            ∙ ap₂ (λ (x : List ℕ) (k : ℕ). x ++ drop k old)
-            (sym (chosen-turn f (entryOf word) p false (led leads p e) ∙ append-nil (chosen p f (entryOf word)))) past;
-      }
-
-  pub take-free : {next : List ℕ} {taken′ : ℕ} → p < length word → entryOf leads p ≢ 1 → next ≡ set now taken (entryOf word p) → taken′ ≡ taken + 1
-      → Taking word leads old next taken′ (p + 1)
-  unfolding takenOut f
-  take-free l ne s t =
-      let front = chosen p f (entryOf word) in
-      let k = count p f in
-      let more : k + 1 ≡ count (p + 1) f = sym (count-turn f p true (free leads p ne)) in
-      let room : k < length old = subst (λ (n : ℕ). k < n) (sym (T .long)) (count-below f p (length word) l (free leads p ne)) in
-      record {
-        bound = omega arith;
-        long = T .long;
-        number = t ∙ ap (λ (n : ℕ). n + 1) (T .number) ∙ more;
-        so-far =
-            s ∙ ap₂ (λ (x : List ℕ) (n : ℕ). set x n (entryOf word p)) (T .so-far) (T .number)
-            ∙ ap (λ (x : List ℕ). set (front ++ x) k (entryOf word p)) (drop-cons old k 0 room)
-            ∙ set-at front (entryOf old k) (drop (suc k) old) (entryOf word p) k (length-chosen p f (entryOf word))
-            ∙ sym (append-assoc front (entryOf word p ∷ []) (drop (suc k) old))
-            ∙ ap₂ (λ (x : List ℕ) (n : ℕ). x ++ drop n old) (sym (chosen-turn f (entryOf word) p true (free leads p ne))) (sym (add-one k) ∙ more);
-      }
-
-  pub take-end : length word ≤ p → now ≡ chosen (length word) (freeAt leads) (entryOf word)
-  unfolding takenOut f
-  take-end h =
-      let whole : p ≡ length word = omega (arith, T .bound) in
-      T .so-far ∙ ap (takenOut word leads old) whole
-      ∙ ap (λ (x : List ℕ). chosen (length word) f (entryOf word) ++ x) (drop-of-length-le old (le-of-eq (T .long)))
-      ∙ append-nil (chosen (length word) f (entryOf word))
 
 -- ---- `forced`: the sum over the places passed
 

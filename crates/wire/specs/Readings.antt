@@ -7,7 +7,7 @@ use native.Mathlib.Omega.{arith}
 use Rattle.slices.specs.Lengths.{longest}
 use Rattle.params.specs.declared.Parameters.{Parameters}
 use Rattle.params.specs.Accepted.{n-short}
-use Rattle.columns.specs.Setting.{Setting}
+use Rattle.shortened.specs.Setting.{Setting}
 use Rattle.gears.specs.declared.Row.{Row}
 use Rattle.gears.specs.Messages.{row-gear, row-lamp}
 use Rattle.gears.specs.Rows.{lampNumber}

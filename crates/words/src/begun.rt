@@ -10,25 +10,30 @@ ghost use mathlib.Core.Path.{_≡_};
 ghost use mathlib.Core.Bool.{true};
 ghost use lib.Dec.{eqb};
 ghost use lib.ListN.{length};
-ghost use Rattle.columns.specs.Begun.{Started, Wherever};
+ghost use Rattle.columns.specs.Listed.{ListedSome, WhateverListed};
+ghost use Rattle.shortened.specs.Begun.{Started, Wherever, bothLong};
+ghost use Rattle.shortened.specs.Setting.{shortened};
 ghost use Rattle.words.specs.Answers.{rolesAnswer, rolesAfter, syndromeAnswer, syndromeAfter};
 ghost use Rattle.words.specs.Answers.{encodeAnswer, encodeAfter, messageAnswer, messageAfter};
 
+// Roles are those of all places, whose columns were found; the marks are tested after these.
 pub fn roles(
     c: Parameters,
     h: &[Elem],
+    hidden: &[u8],
     found: Counted,
     columns: &[Column],
     out: &mut [u8],
 ) -> Counted
-    requires { ⌜ Started c (now h) true (eqb (length (now out))) (now columns) found ⌝ }
+    requires { ⌜ ListedSome c (now h) true (bothLong (now hidden) (now out)) (now columns) found ⌝ }
     ensures { λ r.
-        ⌜ Wherever c (now (h .entry)) true (eqb (length (now (out .entry)))) (now (columns .entry)) found
-        (λ s. (r ≡ rolesAnswer c (now (h .entry)) s (now (out .entry))) × (now (out .exit) ≡ rolesAfter c (now (h .entry)) s (now (out .entry)))) ⌝ }
+        ⌜ WhateverListed c (now (h .entry)) true (bothLong (now (hidden .entry)) (now (out .entry))) (now (columns .entry)) found
+        (λ choice. (r ≡ rolesAnswer c (now (h .entry)) (shortened choice (now (hidden .entry))) (now (out .entry)))
+        × (now (out .exit) ≡ rolesAfter c (now (h .entry)) (shortened choice (now (hidden .entry))) (now (out .entry)))) ⌝ }
 {
     match found {
         Counted::Refused(number) => Counted::Refused(number),
-        Counted::Count(n) => Counted::Count(internal::roles(c, h, &columns[..n as usize], out)),
+        Counted::Count(n) => internal::short_roles(c, h, &columns[..n as usize], hidden, out),
     }
 }
 

@@ -9,16 +9,23 @@ use messages::message_columns;
 use messages::message_fault;
 use params::Parameters;
 use parity::syndromes;
+use refusals::Counted;
+use shortened::mark_fault;
+use shortened::sent_places;
 use slices::LONGEST;
 use slices::all_bits;
 ghost use mathlib.Core.Path.{_≡_};
 ghost use lib.ListN.{length};
+ghost use mathlib.Core.Bool.{true};
+ghost use Rattle.refusals.specs.Rules.{fault, unless-refused};
+ghost use Rattle.refusals.specs.declared.Counted.the-variants.{Count, Refused};
 ghost use Rattle.refusals.specs.Ending.{Ended};
 ghost use Rattle.slices.specs.Bits.{allBits};
 ghost use Rattle.parity.specs.Word.{syndromeOf};
 ghost use Rattle.parity.specs.Columns.{rolesOf, dimension, messageOf, encodingOf};
 ghost use Rattle.parity.specs.Selected.{OnColumns};
 ghost use Rattle.messages.specs.MessageRules.{messageRules};
+ghost use Rattle.shortened.specs.Marks.{sentDimension, markRules};
 ghost use Rattle.words.specs.Answers.{bitRules};
 
 // 1 for each message column and 0 for each check column into `out`, and k.
@@ -31,6 +38,32 @@ pub fn roles(c: Parameters, h: &[Elem], cols: &[Column], out: &mut [u8]) -> u32
     let k = message_columns(c, h, cols, &mut leads);
     systematic::roles(&leads, out);
     k as u32
+}
+
+// The same where marks say which places are sent: k counts the sent message columns, or the marks are refused.
+pub fn short_roles(
+    c: Parameters,
+    h: &[Elem],
+    cols: &[Column],
+    hidden: &[u8],
+    out: &mut [u8],
+) -> Counted
+    requires { ⌜ OnColumns c (now h) (now cols) × (length (now hidden) ≡ length (now cols)) × (length (now out) ≡ length (now cols)) ⌝ }
+    ensures { λ r.
+        ⌜ r
+        ≡ unless-refused (fault (markRules c (now (h .entry)) (now (cols .entry)) (now (hidden .entry)) true)) Refused
+        (Count (sentDimension c (now (h .entry)) (now (cols .entry)) (now (hidden .entry)))) ⌝ }
+    ensures { λ _.
+        ⌜ now (out .exit)
+        ≡ unless-refused (fault (markRules c (now (h .entry)) (now (cols .entry)) (now (hidden .entry)) true)) (λ k. now (out .entry))
+        (rolesOf c (now (h .entry)) (now (cols .entry))) ⌝ }
+{
+    let number = mark_fault(c, h, cols, hidden, true);
+    if number != 0 {
+        return Counted::Refused(number);
+    }
+    let not_sent = hidden.len() - sent_places(hidden);
+    Counted::Count(roles(c, h, cols, out) - not_sent as u32)
 }
 
 // The t sums of the word's columns into `out`, or 8.

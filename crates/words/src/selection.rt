@@ -1,31 +1,47 @@
 // The calls on words for a selection of a code's blocks: place b·t + r of a word is column r ⊕ shifts_b of block blocks_b.
 use crate::begun;
 use basis::Column;
-use columns::Lent;
+use columns::Lengths;
 use columns::is_parts_length;
-use columns::selected_code;
+use columns::selected_columns;
 use field::Elem;
 use params::Parameters;
 use refusals::Counted;
 use refusals::Outcome;
+use shortened::Lent;
+use shortened::selected_code;
+use shortened::sent_places;
 use slices::LONGEST;
 ghost use mathlib.Core.Path.{_≡_};
-ghost use Rattle.columns.specs.Setting.{Setting.selection};
+ghost use Rattle.shortened.specs.Setting.{shortSelection};
 ghost use Rattle.words.specs.Answers.{rolesAnswer, rolesAfter, syndromeAnswer, syndromeAfter};
 ghost use Rattle.words.specs.Answers.{encodeAnswer, encodeAfter, messageAnswer, messageAfter};
 
-// 1 for each message column and 0 for each check column into `out`, and k, the number of message columns.
-pub fn roles(c: Parameters, h: &[Elem], blocks: &[u32], shifts: &[u32], out: &mut [u8]) -> Counted
-    ensures { λ r. ⌜ r ≡ rolesAnswer c (now (h .entry)) (selection (now (blocks .entry)) (now (shifts .entry))) (now (out .entry)) ⌝ }
-    ensures { λ _. ⌜ now (out .exit) ≡ rolesAfter c (now (h .entry)) (selection (now (blocks .entry)) (now (shifts .entry))) (now (out .entry)) ⌝ }
+// 1 for each message column and 0 for each check column into `out`, hidden or sent, and k, the number of sent message columns.
+pub fn roles(
+    c: Parameters,
+    h: &[Elem],
+    blocks: &[u32],
+    shifts: &[u32],
+    hidden: &[u8],
+    out: &mut [u8],
+) -> Counted
+    ensures { λ r.
+        ⌜ r ≡ rolesAnswer c (now (h .entry)) (shortSelection (now (blocks .entry)) (now (shifts .entry)) (now (hidden .entry))) (now (out .entry)) ⌝ }
+    ensures { λ _.
+        ⌜ now (out .exit) ≡ rolesAfter c (now (h .entry)) (shortSelection (now (blocks .entry)) (now (shifts .entry)) (now (hidden .entry)))
+        (now (out .entry)) ⌝ }
 {
-    let lent = Lent {
+    let count = blocks.len();
+    let t = c.t as usize;
+    let lent = Lengths {
         others: true,
-        words: is_parts_length(out.len(), blocks.len(), c.t),
+        places: is_parts_length(hidden.len(), count, t) & is_parts_length(out.len(), count, t),
     };
+    let mut inverses: [Elem; LONGEST] = [0; LONGEST];
     let mut columns: [Column; LONGEST] = [0; LONGEST];
-    let found = selected_code(c, h, blocks, shifts, lent, &mut columns);
-    begun::roles(c, h, found, &columns, out)
+    let found = selected_columns(c, h, blocks, shifts, lent, &mut inverses, &mut columns);
+    begun::roles(c, h, hidden, found, &columns, out)
 }
 
 // The t sums of the word's columns, row by row.
@@ -34,23 +50,25 @@ pub fn syndrome(
     h: &[Elem],
     blocks: &[u32],
     shifts: &[u32],
+    hidden: &[u8],
     word: &[u8],
     out: &mut [Elem],
 ) -> Outcome
     ensures { λ r.
         ⌜ r
-        ≡ syndromeAnswer c (now (h .entry)) (selection (now (blocks .entry)) (now (shifts .entry))) (now (word .entry)) (now (out .entry)) ⌝ }
+        ≡ syndromeAnswer c (now (h .entry)) (shortSelection (now (blocks .entry)) (now (shifts .entry)) (now (hidden .entry))) (now (word .entry))
+        (now (out .entry)) ⌝ }
     ensures { λ _.
         ⌜ now (out .exit)
-        ≡ syndromeAfter c (now (h .entry)) (selection (now (blocks .entry)) (now (shifts .entry))) (now (word .entry)) (now (out .entry)) ⌝ }
+        ≡ syndromeAfter c (now (h .entry)) (shortSelection (now (blocks .entry)) (now (shifts .entry)) (now (hidden .entry))) (now (word .entry))
+        (now (out .entry)) ⌝ }
 {
-    let words = is_parts_length(word.len(), blocks.len(), c.t);
     let lent = Lent {
         others: out.len() == c.t as usize,
-        words,
+        words: word.len() == sent_places(hidden),
     };
     let mut columns: [Column; LONGEST] = [0; LONGEST];
-    let found = selected_code(c, h, blocks, shifts, lent, &mut columns);
+    let found = selected_code(c, h, blocks, shifts, hidden, lent, &mut columns);
     begun::syndrome(c, h, found, &columns, word, out)
 }
 
@@ -60,22 +78,25 @@ pub fn encode(
     h: &[Elem],
     blocks: &[u32],
     shifts: &[u32],
+    hidden: &[u8],
     message: &[u8],
     word: &mut [u8],
 ) -> Outcome
     ensures { λ r.
         ⌜ r
-        ≡ encodeAnswer c (now (h .entry)) (selection (now (blocks .entry)) (now (shifts .entry))) (now (message .entry)) (now (word .entry)) ⌝ }
+        ≡ encodeAnswer c (now (h .entry)) (shortSelection (now (blocks .entry)) (now (shifts .entry)) (now (hidden .entry))) (now (message .entry))
+        (now (word .entry)) ⌝ }
     ensures { λ _.
         ⌜ now (word .exit)
-        ≡ encodeAfter c (now (h .entry)) (selection (now (blocks .entry)) (now (shifts .entry))) (now (message .entry)) (now (word .entry)) ⌝ }
+        ≡ encodeAfter c (now (h .entry)) (shortSelection (now (blocks .entry)) (now (shifts .entry)) (now (hidden .entry))) (now (message .entry))
+        (now (word .entry)) ⌝ }
 {
     let lent = Lent {
         others: true,
-        words: is_parts_length(word.len(), blocks.len(), c.t),
+        words: word.len() == sent_places(hidden),
     };
     let mut columns: [Column; LONGEST] = [0; LONGEST];
-    let found = selected_code(c, h, blocks, shifts, lent, &mut columns);
+    let found = selected_code(c, h, blocks, shifts, hidden, lent, &mut columns);
     begun::encode(c, h, found, &columns, message, word)
 }
 
@@ -85,21 +106,24 @@ pub fn message(
     h: &[Elem],
     blocks: &[u32],
     shifts: &[u32],
+    hidden: &[u8],
     word: &[u8],
     message: &mut [u8],
 ) -> Outcome
     ensures { λ r.
         ⌜ r
-        ≡ messageAnswer c (now (h .entry)) (selection (now (blocks .entry)) (now (shifts .entry))) (now (word .entry)) (now (message .entry)) ⌝ }
+        ≡ messageAnswer c (now (h .entry)) (shortSelection (now (blocks .entry)) (now (shifts .entry)) (now (hidden .entry))) (now (word .entry))
+        (now (message .entry)) ⌝ }
     ensures { λ _.
         ⌜ now (message .exit)
-        ≡ messageAfter c (now (h .entry)) (selection (now (blocks .entry)) (now (shifts .entry))) (now (word .entry)) (now (message .entry)) ⌝ }
+        ≡ messageAfter c (now (h .entry)) (shortSelection (now (blocks .entry)) (now (shifts .entry)) (now (hidden .entry))) (now (word .entry))
+        (now (message .entry)) ⌝ }
 {
     let lent = Lent {
         others: true,
-        words: is_parts_length(word.len(), blocks.len(), c.t),
+        words: word.len() == sent_places(hidden),
     };
     let mut columns: [Column; LONGEST] = [0; LONGEST];
-    let found = selected_code(c, h, blocks, shifts, lent, &mut columns);
+    let found = selected_code(c, h, blocks, shifts, hidden, lent, &mut columns);
     begun::message(c, h, found, &columns, word, message)
 }

@@ -4,7 +4,7 @@
 use std::fs;
 use std::process::exit;
 use zovunelith::sheet::{self, LONGEST_LISTING};
-use zovunelith::{Code, Counts, Elem, Lamp, Row};
+use zovunelith::{nothing_hidden, Code, Counts, Elem, Lamp, Row};
 
 /// The text of the sheet in a file.
 pub fn sheet(path: &str) -> Vec<u8> {
@@ -37,7 +37,8 @@ impl Card {
 
     pub fn code(&self) -> Code<'_> {
         let numbers = numbers(&self.listing);
-        Code { m: numbers[0], n: numbers[1], t: numbers[2], omega: numbers[3], h: &self.h }
+        let [m, n, t, omega] = [0, 1, 2, 3].map(|place| numbers[place]);
+        Code { m, n, t, omega, h: &self.h, hidden: nothing_hidden(n) }
     }
 
     /// Whether the card has room for rows; if not, that is said.

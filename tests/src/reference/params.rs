@@ -1,6 +1,7 @@
-//! The parameters of a code (01's card): which signatures are accepted, the roots and the support.
+//! The parameters of a code (01's card): which signatures and marks are accepted, the roots and the support.
 
 use super::field;
+use super::words::Code;
 use crate::Elem;
 
 /// The lengths n of a code.
@@ -17,12 +18,19 @@ pub struct Params {
     pub t: u32,
     pub omega: u32,
     pub h: Vec<Elem>,
+    /// A mark for each place: 0 sent, 1 hidden.
+    pub hidden: Vec<u8>,
 }
 
 /// m, n and t of a code.
 pub type Shape = (u32, u32, u32);
 
 impl Params {
+    /// A code as long as its signature, which hides nothing.
+    pub fn new(m: u32, t: u32, omega: u32, h: Vec<Elem>) -> Params {
+        Params { m, n: h.len() as u32, t, omega, hidden: vec![0; h.len()], h }
+    }
+
     pub fn shape(&self) -> Shape {
         (self.m, self.n, self.t)
     }
@@ -30,28 +38,35 @@ impl Params {
 
 /// Code A of the bench cases, the sheet that stands with them.
 pub fn code_a() -> Params {
-    Params { m: 3, n: 4, t: 1, omega: 0, h: vec![7, 2, 3, 4] }
+    Params::new(3, 1, 0, vec![7, 2, 3, 4])
 }
 
 /// Code T of the bench cases, the toy example of document 004.
 pub fn code_t() -> Params {
-    let h = vec![12, 8, 10, 22, 26, 9, 16, 21, 14, 5, 17, 4, 30, 23, 25, 31];
-    Params { m: 5, n: 16, t: 2, omega: 24, h }
+    Params::new(5, 2, 24, vec![12, 8, 10, 22, 26, 9, 16, 21, 14, 5, 17, 4, 30, 23, 25, 31])
 }
 
-/// The first of the numbers 1 to 7 that applies to a code. `lent` holds, for each further buffer of the call, the
-/// length it has and the length it should have; a difference is a 2.
-pub fn judge(params: &Params, lent: &[(usize, u32)]) -> Result<(), u32> {
-    let Params { m, n, t, omega, ref h } = *params;
+/// For buffers of a call the length that each has and the length that it should have.
+pub type Lengths<'a> = &'a [(usize, u32)];
+
+/// 2 for a buffer of another length than it should have.
+pub fn judge_lengths(lent: Lengths) -> Result<(), u32> {
+    if lent.iter().any(|&(length, named)| length as u64 != u64::from(named)) {
+        return Err(2);
+    }
+    Ok(())
+}
+
+/// The first of the numbers 1 to 7 that applies to a code, whatever its marks are, and to further buffers of the call.
+pub fn judge(params: &Params, lent: Lengths) -> Result<(), u32> {
+    let Params { m, n, t, omega, ref h, .. } = *params;
     if field::word(m).is_none() {
         return Err(1);
     }
     if !LENGTHS.contains(&n) || h.len() != n as usize {
         return Err(2);
     }
-    if lent.iter().any(|&(length, named)| length as u64 != u64::from(named)) {
-        return Err(2);
-    }
+    judge_lengths(lent)?;
     let q = field::size(m);
     if omega >= q || h.iter().any(|&entry| u32::from(entry) >= q) {
         return Err(3);
@@ -61,6 +76,21 @@ pub fn judge(params: &Params, lent: &[(usize, u32)]) -> Result<(), u32> {
         return Err(7);
     }
     Ok(())
+}
+
+/// The same for a code with marks, of which there are to be n.
+pub fn judge_marked(params: &Params, lent: Lengths) -> Result<(), u32> {
+    judge(params, &[lent, &[(params.hidden.len(), params.n)]].concat())
+}
+
+/// The first number that applies to a card and to further buffers of the call: 1 to 7, then 20.
+fn judge_card(params: &Params, lent: Lengths) -> Result<(), u32> {
+    judge_marked(params, lent)?;
+    // Where nothing is hidden, no check column is, whichever they are.
+    if params.hidden.iter().all(|&mark| mark == 0) {
+        return Ok(());
+    }
+    Code::whole(params).map(|_| ())
 }
 
 /// The three rules for signatures, each for itself: 4 for a zero, 5 where the rule for 1/h fails, 6 for equal entries.
@@ -111,13 +141,14 @@ pub fn support(params: &Params) -> Vec<Elem> {
 
 /// Checking a code gives z and L, n of each.
 pub fn check(params: &Params, roots_length: usize, support_length: usize) -> Result<(Vec<Elem>, Vec<Elem>), u32> {
-    judge(params, &[(roots_length, params.n), (support_length, params.n)])?;
+    judge_card(params, &[(roots_length, params.n), (support_length, params.n)])?;
     Ok((roots(params), support(params)))
 }
 
-/// Whether two accepted codes are the same: m, n, t, ω and h agree. A fault in either brings its number, the lowest.
+/// Whether two accepted codes are the same: m, n, t, ω, h and the marks agree. A fault in either brings its number, the
+/// lowest.
 pub fn same(one: &Params, other: &Params) -> Result<bool, u32> {
-    let faults = [judge(one, &[]), judge(other, &[])];
+    let faults = [judge_card(one, &[]), judge_card(other, &[])];
     match faults.iter().filter_map(|fault| fault.err()).min() {
         Some(number) => Err(number),
         None => Ok(one == other),
@@ -129,9 +160,10 @@ mod tests {
     use super::*;
     use crate::draw;
     use crate::random::Random;
+    use crate::reference::columns::Setting;
 
     fn params(m: u32, t: u32, omega: u32, h: &[Elem]) -> Params {
-        Params { m, n: h.len() as u32, t, omega, h: h.to_vec() }
+        Params::new(m, t, omega, h.to_vec())
     }
 
     #[test]
@@ -222,6 +254,29 @@ mod tests {
         assert_eq!(same(&params, &Params { omega: 3, ..params.clone() }), Ok(false));
         assert_eq!(same(&params, &Params { t: 4, ..params.clone() }), Ok(false));
         assert_eq!(same(&params, &code_a()), Ok(false));
+        assert_eq!(same(&params, &params.hiding(&[9])), Ok(false));
+        assert_eq!(same(&params.hiding(&[9, 13]), &params.hiding(&[9, 13])), Ok(true));
         assert_eq!(same(&Params { t: 3, ..params.clone() }, &Params { omega: 32, ..params.clone() }), Err(3));
+        assert_eq!(same(&params.hiding(&[0]), &params), Err(20));
+        assert_eq!(same(&params.hiding(&[0]), &Params { t: 3, ..params.clone() }), Err(7));
+    }
+
+    /// Code T's message columns are 8, 9, 12, 13, 14 and 15.
+    #[test]
+    fn marks() {
+        let number = |params: &Params| check(params, 16, 16).err();
+        for place in 0..16 {
+            let is_message_column = [8, 9, 12, 13, 14, 15].contains(&place);
+            assert_eq!(number(&code_t().hiding(&[place])), (!is_message_column).then_some(20), "place {place}");
+        }
+        assert_eq!(check(&code_t().hiding(&[8, 9, 12, 13, 14, 15]), 16, 16), check(&code_t(), 16, 16));
+        let mut marked = code_t();
+        marked.hidden[8] = 2;
+        assert_eq!(number(&marked), Some(20));
+        assert_eq!(number(&Params { t: 16, ..marked.clone() }), Some(7));
+        assert_eq!(check(&marked, 16, 15), Err(2));
+        marked.hidden.pop();
+        assert_eq!(number(&marked), Some(2));
+        assert_eq!(number(&Params { m: 1, ..marked }), Some(1));
     }
 }

@@ -2,7 +2,8 @@
 //!
 //! Three methods, each by itself evident. Where a code has few words, all are compared with the word received. For
 //! small t, unless the words are long, all choices of at most t places are looked through, in two halves, for one with
-//! the syndrome of the word received. Elsewhere the locator's equations are solved, and what they give is checked.
+//! the syndrome of the word received. Elsewhere the locator's equations are solved, and what they give is checked. The
+//! last two work with all places, and hidden ones are to stay 0.
 
 use super::columns::Setting;
 use super::field;
@@ -36,11 +37,11 @@ enum Method {
 
 impl Decoder {
     pub fn new(code: Code) -> Decoder {
-        let method = if code.length() <= 8 {
+        let method = if code.places() <= 8 {
             Method::List(code_words_among_all_words(&code))
         } else if code.k() <= 10 {
             Method::List(code_words_of_all_messages(&code))
-        } else if code.params.t <= 2 || code.params.t <= 4 && code.length() <= 128 {
+        } else if code.params.t <= 2 || code.params.t <= 4 && code.places() <= 128 {
             Method::Halves(Halves::new(&code))
         } else {
             Method::Locator
@@ -57,10 +58,10 @@ impl Decoder {
     }
 }
 
-/// The code words found by looking at every word.
+/// The code words found by looking at every word of all places.
 fn code_words_among_all_words(code: &Code) -> Vec<Vec<u8>> {
-    let words = (0..1_usize << code.length()).map(|number| bits(number, code.length()));
-    words.filter(|word| code.is_code_word(word)).collect()
+    let wide = (0..1_usize << code.places()).map(|number| bits(number, code.places()));
+    wide.filter(|wide| code.is_wide_code_word(wide)).map(|wide| code.cut_down(&wide)).collect()
 }
 
 /// The code words of all messages.
@@ -77,7 +78,8 @@ fn nearest_of_list(code: &Code, code_words: &[Vec<u8>], received: &[u8]) -> Repa
     Some((found.clone(), distance(found, received) as u32))
 }
 
-/// Choices of places by their syndrome. An error of at most t places is one of at most ⌈t/2⌉ and one of at most ⌊t/2⌋.
+/// Choices of sent places by their syndrome. An error of at most t places is one of at most ⌈t/2⌉ and one of at most
+/// ⌊t/2⌋.
 struct Halves {
     larger: HashMap<u64, Vec<usize>>,
     smaller: Vec<(u64, Vec<usize>)>,
@@ -86,9 +88,12 @@ struct Halves {
 impl Halves {
     fn new(code: &Code) -> Halves {
         let t = code.params.t as usize;
-        let columns: Vec<u64> = (0..code.length()).map(|j| key(code.parity.iter().map(|row| row[j]))).collect();
-        let larger = choices(&columns, t.div_ceil(2)).into_iter().collect();
-        Halves { larger, smaller: choices(&columns, t / 2) }
+        let columns: Vec<u64> = (0..code.places()).map(|j| key(code.parity.iter().map(|row| row[j]))).collect();
+        let choices = |most: usize| {
+            let sent = |places: &[usize]| places.iter().all(|&place| code.hidden[place] == 0);
+            choices(&columns, most).into_iter().filter(move |(_, places)| sent(places))
+        };
+        Halves { larger: choices(t.div_ceil(2)).collect(), smaller: choices(t / 2).collect() }
     }
 
     fn repair(&self, code: &Code, received: &[u8]) -> Repaired {
@@ -97,12 +102,13 @@ impl Halves {
             let rest = self.larger.get(&(wanted ^ sum))?;
             Some((places, rest))
         })?;
-        let mut repaired = received.to_vec();
+        let mut wide = code.widened(received);
         for &place in one.iter().chain(other) {
-            repaired[place] ^= 1;
+            wide[place] ^= 1;
         }
+        let repaired = code.cut_down(&wide);
         let count = distance(&repaired, received) as u32;
-        assert!(code.is_code_word(&repaired) && count <= code.params.t, "{:?}, {received:?}", code.params);
+        assert!(code.is_wide_code_word(&wide) && count <= code.params.t, "{:?}, {received:?}", code.params);
         Some((repaired, count))
     }
 }
@@ -141,12 +147,13 @@ fn choices(columns: &[u64], most: usize) -> Vec<(u64, Vec<usize>)> {
 /// The second gives 2t sums, S_l being that of L_j^l / g(L_j)² over the places that hold 1. If w places are in error,
 /// w at most t, the polynomial with exactly their L_j as roots, x^w plus lower terms, takes any w + 1 neighbouring
 /// sums to zero, and no other such polynomial of degree w or below does. So the lowest degree for which the equations
-/// can be solved is tried, its roots among the L_j are turned, and the result is checked.
+/// can be solved is tried, its roots among the L_j are turned, and the result is checked. There is one code word of all
+/// places that near, if any: where it is not 0 at a hidden place, none is that is.
 pub fn repair_by_locator(code: &Code, received: &[u8]) -> Repaired {
     let (m, t) = (code.params.m, code.params.t as usize);
     let roots = &params::roots(&code.params)[..t];
-    let mut sums = vec![0; 2 * t];
-    for (&place, _) in code.support.iter().zip(received).filter(|(_, &bit)| bit == 1) {
+    let (mut wide, mut sums) = (code.widened(received), vec![0; 2 * t]);
+    for (&place, _) in code.support.iter().zip(&wide).filter(|(_, &bit)| bit == 1) {
         let goppa = roots.iter().fold(1, |product, root| field::times(m, product, place ^ root));
         let mut term = field::reciprocal(m, field::times(m, goppa, goppa));
         for sum in &mut sums {
@@ -159,13 +166,13 @@ pub fn repair_by_locator(code: &Code, received: &[u8]) -> Repaired {
         let equations = (0..2 * t - w).map(|l| sums[l..=l + w].to_vec());
         solve(m, w, equations)
     })?;
-    let mut repaired = received.to_vec();
-    for (bit, &place) in repaired.iter_mut().zip(&code.support) {
+    for (bit, &place) in wide.iter_mut().zip(&code.support) {
         let value = locator.iter().rev().fold(1, |value, &coefficient| field::times(m, value, place) ^ coefficient);
         *bit ^= u8::from(value == 0);
     }
+    let repaired = code.cut_down(&wide);
     let count = distance(&repaired, received);
-    (count <= t && code.is_code_word(&repaired)).then_some((repaired, count as u32))
+    (count <= t && code.is_wide_code_word(&wide)).then_some((repaired, count as u32))
 }
 
 /// One solution of linear equations in `unknowns` unknowns, if there is any. An equation is its coefficients and then
@@ -199,7 +206,8 @@ fn solve(m: u32, unknowns: usize, equations: impl Iterator<Item = Vec<Elem>>) ->
 
 /// The repaired word with its count, or 10.
 pub fn repair(setting: &impl Setting, received: &[u8], repaired_length: usize) -> Result<(Vec<u8>, u32), u32> {
-    let code = setting.judge(&[received.len(), repaired_length], None)?;
+    let code = setting.judge(None)?;
+    code.judge_words(&[received.len(), repaired_length])?;
     words::judge_bits(received)?;
     Decoder::new(code).repair(received).ok_or(10)
 }
@@ -221,6 +229,19 @@ mod tests {
         assert_eq!(repair(&code_t(), &ones_at(16, &[1, 2, 5]), 16), Err(10));
     }
 
+    /// With its one message column hidden, code A has the zero word alone. The word that a place at the hidden column
+    /// would repair is too far then.
+    #[test]
+    fn short_words() {
+        let short = code_a().hiding(&[3]);
+        assert_eq!(repair(&short, &[0, 1, 0], 3), Ok((vec![0; 3], 1)));
+        assert_eq!(repair(&code_a(), &[1, 0, 1, 0], 4), Ok((vec![1, 0, 1, 1], 1)));
+        assert_eq!(repair(&short, &[1, 0, 1], 3), Err(10));
+        // Code T without place 9: first, dark is the same word but for it.
+        let first_dark = ones_at(15, &[1, 2, 5, 6, 7, 8]);
+        assert_eq!(repair(&code_t().hiding(&[9]), &turned(&first_dark, &[0, 14]), 15), Ok((first_dark, 2)));
+    }
+
     #[test]
     fn refusals() {
         assert_eq!(repair(&code_t(), &[2; 15], 16), Err(2));
@@ -236,7 +257,7 @@ mod tests {
         let mut too_far = 0;
         for code in draw::codes(&mut random, draw::fewer_shapes(), 512) {
             let (length, t) = (code.length(), code.params.t as usize);
-            let all_words = (length <= 8).then(|| code_words_among_all_words(&code));
+            let all_words = (code.places() <= 8).then(|| code_words_among_all_words(&code));
             let all_messages = (code.k() <= 12).then(|| code_words_of_all_messages(&code));
             let halves = (t <= 4).then(|| Halves::new(&code));
             // The more rows, the longer the equations take.

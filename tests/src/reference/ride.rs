@@ -26,11 +26,11 @@ impl Lists {
         self.turned.extend_from_slice(marks);
     }
 
-    /// The steps, each with its row and its n marks, of lists whose lengths agree.
-    pub fn steps(&self, n: usize) -> Vec<(Row, &[u8])> {
+    /// The steps, each with its row and the marks of a word of this length, of lists whose lengths agree.
+    pub fn steps(&self, length: usize) -> Vec<(Row, &[u8])> {
         let rows =
             self.gears.iter().zip(&self.lamps).map(|(&gear, &lamp)| Row { gear: gear.into(), lamp: lamp.into() });
-        rows.zip(self.turned.chunks(n)).collect()
+        rows.zip(self.turned.chunks(length)).collect()
     }
 }
 
@@ -86,19 +86,16 @@ pub fn ride_steps(decoder: &Decoder, lists: &Lists) -> Ridden {
     Ridden { answer, counts: Some(counts(&ends)) }
 }
 
-/// The code, with room for rows, or the first number that applies before the ride starts: 1 to 7, then 12.
+/// The code, with room for rows, or the first number that applies before the ride starts: 1 to 7, then 20, then 2 for
+/// the marks of the steps, then 12.
 fn judge(params: &Params, lists: &Lists, counts_length: usize) -> Result<Code, u32> {
     let steps = lists.gears.len();
-    // A product that is too large is that of an n which no code has.
-    let marks = params.n.saturating_mul(steps as u32);
-    let lent = [
-        (steps, steps.min(LONGEST) as u32),
-        (lists.lamps.len(), steps as u32),
-        (lists.turned.len(), marks),
-        (counts_length, COUNTS as u32),
-    ];
-    params::judge(params, &lent)?;
-    let code = Code::new(params);
+    let lent = [(steps, steps.min(LONGEST) as u32), (lists.lamps.len(), steps as u32), (counts_length, COUNTS as u32)];
+    params::judge_marked(params, &lent)?;
+    let code = Code::whole(params)?;
+    if lists.turned.len() != steps * code.length() {
+        return Err(2);
+    }
     rows::judge_narrow(&code)?;
     Ok(code)
 }
@@ -115,6 +112,7 @@ pub fn ride(params: &Params, lists: &Lists, counts_length: usize) -> Ridden {
 mod tests {
     use super::*;
     use crate::bits::ones_at;
+    use crate::reference::columns::Setting;
     use crate::reference::params::{code_a, code_t};
 
     /// Rides of first, dark on code T, with these places turned; a gear of 8 is no row.
@@ -151,6 +149,14 @@ mod tests {
         assert_eq!(number(&Params { n: u32::MAX, ..code_t() }, &lists, 4), (2, None));
         assert_eq!(number(&code_a(), &Lists::default(), 4), (12, None));
         assert_eq!(number(&code_t(), &Lists { lamps: vec![], ..lists.clone() }, 4), (2, None));
-        assert_eq!(number(&code_t(), &Lists { turned: vec![0; 15], ..lists }, 4), (2, None));
+        let shorter = Lists { turned: vec![0; 15], ..lists.clone() };
+        assert_eq!(number(&code_t(), &shorter, 4), (2, None));
+        assert_eq!(number(&Params { t: 3, ..code_t() }, &shorter, 4), (7, None));
+        // With a place hidden the marks of a step are fifteen.
+        assert_eq!(number(&code_t().hiding(&[8]), &shorter, 4), (11, Some([0; 4])));
+        assert_eq!(number(&code_t().hiding(&[8]), &lists, 4), (2, None));
+        assert_eq!(number(&code_t().hiding(&[8, 9]), &Lists::default(), 4), (12, None));
+        assert_eq!(number(&code_t().hiding(&[0]), &lists, 4), (20, None));
+        assert_eq!(number(&code_t().hiding(&[0]), &lists, 3), (2, None));
     }
 }

@@ -4,7 +4,7 @@ use super::columns::Setting;
 use super::repair::Decoder;
 use super::words::{self, Code};
 
-/// The fewest message columns that hold a row: three bits of gear and two of lamp.
+/// The fewest sent message columns that hold a row: three bits of gear and two of lamp.
 pub const BITS: usize = 5;
 
 /// A gear, 0 being neutral and 7 the high neutral, and a lamp: 0 dark, 1 green, 2 amber.
@@ -50,7 +50,8 @@ pub fn write_word(code: &Code, row: Row) -> Result<Vec<u8>, u32> {
 
 /// The word of a row: what the setting refuses, then 12, then 11.
 pub fn write(setting: &impl Setting, gear: u32, lamp: u32, word_length: usize) -> Result<Vec<u8>, u32> {
-    let code = setting.judge(&[word_length], None)?;
+    let code = setting.judge(None)?;
+    code.judge_words(&[word_length])?;
     judge_narrow(&code)?;
     write_word(&code, Row { gear, lamp })
 }
@@ -70,7 +71,8 @@ pub fn read_word(decoder: &Decoder, received: &[u8]) -> Result<Read, u32> {
 
 /// Reads a row: what the setting refuses, then 12, then 8, then what repair refuses, then 11.
 pub fn read(setting: &impl Setting, received: &[u8], repaired_length: usize) -> Result<Read, u32> {
-    let code = setting.judge(&[received.len(), repaired_length], None)?;
+    let code = setting.judge(None)?;
+    code.judge_words(&[received.len(), repaired_length])?;
     judge_narrow(&code)?;
     words::judge_bits(received)?;
     read_word(&Decoder::new(code), received)
@@ -140,5 +142,13 @@ mod tests {
         assert_eq!(read(&code_t(), &[2; 16], 15), Err(2));
         assert_eq!(write(&code_t(), 8, 0, 16), Err(11));
         assert_eq!(write(&code_t(), 8, 0, 17), Err(2));
+        assert_eq!(write(&Params { t: 3, ..code_t() }, 8, 0, 17), Err(7));
+        // Of code T's six message columns one can be hidden, and two are too many.
+        let (short, narrow) = (code_t().hiding(&[12]), code_t().hiding(&[12, 13]));
+        assert_eq!(write(&short, 1, 0, 15), Ok(ones_at(15, &[1, 2, 5, 6, 7, 8])));
+        assert_eq!(write(&short, 1, 0, 16), Err(2));
+        assert_eq!(write(&narrow, 9, 9, 14), Err(12));
+        assert_eq!(write(&narrow, 9, 9, 15), Err(2));
+        assert_eq!(read(&code_t().hiding(&[0]), &[2; 16], 15), Err(20));
     }
 }

@@ -43,33 +43,39 @@ pub enum Call {
     Round,
 }
 
-/// For each buffer of the call the length it has and the length it should have. A list of S words is one that words of
-/// n bytes fill without a rest, S of them: the product of S and n could be too large for its type.
+/// For each buffer of the call whose length does not follow from the marks, the length it has and the length it should
+/// have.
 fn lent(given: &Given, call: &Call, dash: &Dash) -> Vec<(usize, u32)> {
-    let (n, senders) = (given.params.n, given.senders);
-    // An n of 0 is refused whatever the lengths are.
-    let divisor = n.max(1) as usize;
-    let filled = |list: &[u8]| [(list.len() / divisor, senders), (list.len() % divisor, 0)];
+    let senders = given.senders;
     let (waiting, next) = ((dash.waiting.len(), senders), (dash.next.len(), 1));
     match call {
         Call::Start => vec![waiting, next],
-        Call::Offer { word, .. } => [&[waiting, (word.len(), n)][..], &filled(&dash.words)].concat(),
-        Call::Round => {
-            let answers = (dash.answers.len(), senders);
-            [&[waiting, next, answers][..], &filled(&dash.words), &filled(&dash.handed)].concat()
-        }
+        Call::Offer { .. } => vec![waiting],
+        Call::Round => vec![waiting, next, (dash.answers.len(), senders)],
     }
 }
 
-/// For each sender the word that waits. The lengths are right.
-fn waiting(n: u32, dash: &Dash) -> Vec<Option<&[u8]>> {
-    let words = dash.words.chunks(n as usize);
+/// The same for those that hold words of this length. A list of S words is one that such words fill without a rest, S
+/// of them: the product of S and their length could be too large for its type.
+fn lent_for_words(length: usize, given: &Given, call: &Call, dash: &Dash) -> Vec<(usize, u32)> {
+    let filled = |list: &[u8]| [(list.len() / length, given.senders), (list.len() % length, 0)];
+    match call {
+        Call::Start => vec![],
+        Call::Offer { word, .. } => [&[(word.len(), length as u32)][..], &filled(&dash.words)].concat(),
+        Call::Round => [filled(&dash.words), filled(&dash.handed)].concat(),
+    }
+}
+
+/// For each sender the word that waits, of this length. The lengths are right.
+fn waiting(length: usize, dash: &Dash) -> Vec<Option<&[u8]>> {
+    let words = dash.words.chunks(length);
     dash.waiting.iter().zip(words).map(|(&byte, word)| (byte == 1).then_some(word)).collect()
 }
 
-/// The first number that applies to a call: 1 to 7, then 18, then 19, then 8.
-fn judge(given: &Given, call: &Call, dash: &Dash) -> Result<(), u32> {
-    params::judge(&given.params, &lent(given, call, dash))?;
+/// The first number that applies to a call once its card and the lengths that do not follow from the marks are right:
+/// 2, then 18, then 19, then 8.
+fn judge(code: &Code, given: &Given, call: &Call, dash: &Dash) -> Result<(), u32> {
+    params::judge_lengths(&lent_for_words(code.length(), given, call, dash))?;
     let named = match call {
         Call::Start => None,
         Call::Offer { sender, .. } => Some(*sender),
@@ -85,7 +91,7 @@ fn judge(given: &Given, call: &Call, dash: &Dash) -> Result<(), u32> {
         Call::Offer { word, .. } => words::judge_bits(word),
         Call::Round => {
             words::judge_bits(&dash.waiting)?;
-            waiting(given.params.n, dash).into_iter().flatten().try_for_each(words::judge_bits)
+            waiting(code.length(), dash).into_iter().flatten().try_for_each(words::judge_bits)
         }
     }
 }
@@ -109,7 +115,7 @@ fn after_round(decoder: &Decoder, repairs: u32, dash: &Dash) -> Dash {
     // A turn that begins at 0 comes after no sender, or after the last one, which leaves it the same.
     let last_tried = (dash.next[0] as usize).checked_sub(1);
     let (first, second): (Vec<usize>, Vec<usize>) = (0..senders).partition(|&sender| Some(sender) > last_tried);
-    let words = waiting(code.params.n, dash);
+    let words = waiting(code.length(), dash);
     let turn = [first, second].concat().into_iter().filter_map(|sender| Some((sender, words[sender]?)));
     let (handed_out, others): (Vec<_>, Vec<_>) = turn.partition(|(_, word)| code.is_code_word(word));
     let tried = &others[..others.len().min(repairs as usize)];
@@ -137,21 +143,26 @@ fn after_round(decoder: &Decoder, repairs: u32, dash: &Dash) -> Dash {
     }
 }
 
-/// What the buffers hold after a call, or the number that refuses it.
+/// What the buffers hold after a call, or the number that refuses it: 1 to 7 for the card and the lengths that do not
+/// follow from its marks, then 20, then what is left.
 pub fn made(given: &Given, call: &Call, dash: &Dash) -> Result<Dash, u32> {
-    judge(given, call, dash)?;
-    Ok(after(&Decoder::new(Code::new(&given.params)), given.repairs, call, dash))
+    params::judge_marked(&given.params, &lent(given, call, dash))?;
+    let code = Code::whole(&given.params)?;
+    judge(&code, given, call, dash)?;
+    Ok(after(&Decoder::new(code), given.repairs, call, dash))
 }
 
-/// The same on a code that is accepted and prepared.
+/// The same on a card that is accepted and prepared.
 pub fn made_on(decoder: &Decoder, given: &Given, call: &Call, dash: &Dash) -> Result<Dash, u32> {
-    judge(given, call, dash)?;
+    params::judge_lengths(&lent(given, call, dash))?;
+    judge(&decoder.code, given, call, dash)?;
     Ok(after(decoder, given.repairs, call, dash))
 }
 
 #[cfg(test)]
 mod tests {
     use super::*;
+    use crate::reference::columns::Setting;
     use crate::reference::params::{code_a, code_t};
 
     /// Code A: its code words are 0000 and 1011.
@@ -229,5 +240,14 @@ mod tests {
         assert_eq!(number(&given(0, 1), &none), Some(18));
         assert_eq!(number(&Given { params: Params { n: 0, ..code_a() }, ..given(0, 1) }, &none), Some(2));
         assert_eq!(number(&Given { params: Params { t: 3, ..code_a() }, ..given(0, 1) }, &none), Some(7));
+        // With the message column hidden, the words have three bytes.
+        let marked = |place: usize| Given { params: code_a().hiding(&[place]), ..given(3, 1) };
+        let shorter = Dash { words: vec![0; 9], handed: vec![0; 9], ..right.clone() };
+        assert_eq!(number(&marked(3), &shorter), None);
+        assert_eq!(number(&marked(3), &right), Some(2));
+        assert_eq!(number(&Given { repairs: 0, ..marked(3) }, &right), Some(2));
+        assert_eq!(number(&marked(0), &right), Some(20));
+        assert_eq!(number(&Given { repairs: 0, ..marked(0) }, &shorter), Some(20));
+        assert_eq!(number(&marked(0), &Dash { next: vec![], ..right }), Some(2));
     }
 }

@@ -29,7 +29,7 @@ fn read_line(line: &[u8]) -> Option<Vec<u32>> {
     line.chunks(COLUMNS).map(read_number).collect()
 }
 
-/// The code on a sheet; none for a text that is no sheet. The code may be refused.
+/// The code on a sheet, which hides nothing; none for a text that is no sheet. The code may be refused.
 pub fn read(text: &[u8]) -> Option<Params> {
     // Two lines, each ended by byte 10, and nothing after them.
     let parts: Vec<&[u8]> = text.split(|&byte| byte == 10).collect();
@@ -40,7 +40,7 @@ pub fn read(text: &[u8]) -> Option<Params> {
         return None;
     };
     let h: Vec<Elem> = read_line(second)?.into_iter().map(|entry| entry as Elem).collect();
-    (n <= LONGEST && h.len() == n as usize).then_some(Params { m, n, t, omega, h })
+    (n <= LONGEST && h.len() == n as usize).then(|| Params::new(m, t, omega, h))
 }
 
 /// The listing of a sheet, or 13, or the number of its code.
@@ -50,7 +50,7 @@ pub fn listing(text: &[u8]) -> Result<Vec<u8>, u32> {
     let code = Code::new(&params);
     let (support, k) = (params::support(&params), code.k() as u32);
     let mut lines = vec![vec![params.m, params.n, params.t, params.omega, params.n - k, k]];
-    for j in 0..code.length() {
+    for j in 0..code.places() {
         lines.push(vec![j as u32, params.h[j].into(), support[j].into(), code.roles[j].into()]);
     }
     let printed: String = lines.iter().map(|line| print_line(line)).collect();
@@ -134,7 +134,7 @@ mod tests {
     fn lengths_that_no_code_has() {
         assert_eq!(listing(b"     3     0     1     0\n\n"), Err(2));
         assert_eq!(listing(b"    17     0     1     0\n\n"), Err(1));
-        let of_length = |n: u32| Params { m: 16, n, t: 1, omega: 65535, h: vec![65535; n as usize] };
+        let of_length = |n: u32| Params::new(16, 1, 65535, vec![65535; n as usize]);
         for (n, number) in [(511, 2), (512, 6)] {
             assert_eq!(listing(&sheet(&of_length(n))), Err(number));
             assert_eq!(read(&sheet(&of_length(n))), Some(of_length(n)));

@@ -7,7 +7,7 @@ use lib.Dec.{ltb}
 use lib.ListN.{length}
 use Rattle.algebra.specs.Scanning.{Scanning, scanning-start, scanning-turn, scanning-fails, scanning-end}
 use Rattle.algebra.specs.Lists.{entryOf}
-use Rattle.columns.specs.Setting.{allBelow}
+use Rattle.columns.specs.Choice.{allBelow}
 use borrow.Author.Needs.{needs}
 use Rattle.columns.proofs.all_below.Statement.{statement}
 use Rattle.columns.proofs.all_below.Tie as tie

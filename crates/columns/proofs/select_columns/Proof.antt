@@ -9,8 +9,8 @@ use lib.Seq.{take-at}
 use Rattle.algebra.specs.Tabulate.{tabulate}
 use Rattle.algebra.specs.TabulateLaws.{length-tabulate}
 use Rattle.algebra.specs.Filling.{filled, filled-start, filled-turn, length-filled}
-use Rattle.columns.specs.Begun.{Selecting}
-use Rattle.columns.specs.Setting.{selectedColumn}
+use Rattle.columns.specs.Listed.{Selecting}
+use Rattle.columns.specs.Choice.{selectedColumn}
 use borrow.Author.Needs.{needs}
 use Rattle.columns.proofs.select_columns.Statement.{statement}
 use Rattle.columns.proofs.select_columns.Tie as tie

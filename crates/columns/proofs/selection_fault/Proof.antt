@@ -5,8 +5,8 @@ use native.Mathlib.Omega.{arith}
 use Rattle.algebra.specs.Flags.{passed, failed}
 use Rattle.refusals.specs.RuleLaws.{fault-here, fault-past, fault-none}
 use Rattle.slices.specs.Lengths.{longest}
-use Rattle.columns.specs.Setting.{hasLengths, selectionRules}
-use Rattle.columns.specs.SettingLaws.{below-is}
+use Rattle.columns.specs.Choice.{hasLengths, selectionRules}
+use Rattle.columns.specs.ChoiceLaws.{below-is}
 use borrow.Author.Needs.{needs}
 use Rattle.columns.proofs.selection_fault.Statement.{statement}
 use Rattle.columns.proofs.selection_fault.Tie as tie

@@ -18,6 +18,9 @@ slice-aggregate-check-2 c = search needs
 slice-aggregate-check-3 : tie.Need-slice-aggregate-check-3
 slice-aggregate-check-3 c = search needs
 
+slice-aggregate-check-4 : tie.Need-slice-aggregate-check-4
+slice-aggregate-check-4 c = search needs
+
 check-requires : tie.Need-check-requires
 check-requires c κs = search needs
 
@@ -26,6 +29,9 @@ slice-aggregate-roles c = search needs
 
 slice-aggregate-roles-2 : tie.Need-slice-aggregate-roles-2
 slice-aggregate-roles-2 c = search needs
+
+slice-aggregate-roles-3 : tie.Need-slice-aggregate-roles-3
+slice-aggregate-roles-3 c = search needs
 
 roles-requires : tie.Need-roles-requires
 roles-requires c κs = search needs
@@ -53,8 +59,8 @@ array-share-prefix-roots c = search needs
 
 slice-aggregate-print-elements-2 : tie.Need-slice-aggregate-print-elements-2
 slice-aggregate-print-elements-2 c =
-    let checked = c .before .before .before .before .before .before .before .before .before .before .before .before .before .check in
-    sym (length-take-le 2 (checked .last .1 .1 .0) (omega (arith, checked .kept .1 .1 .0)))
+    let checked = c .before .before .before .before .before .before .before .before .before .before .before .before .before .before .check in
+    sym (length-take-le 2 (checked .last .1 .1 .1 .0) (omega (arith, checked .kept .1 .1 .1 .0)))
 
 print-elements-requires-2 : tie.Need-print-elements-requires-2
 print-elements-requires-2 c κs = search needs
@@ -82,9 +88,11 @@ show-toy-spec =
     slice-aggregate-check
     slice-aggregate-check-2
     slice-aggregate-check-3
+    slice-aggregate-check-4
     check-requires
     slice-aggregate-roles
     slice-aggregate-roles-2
+    slice-aggregate-roles-3
     roles-requires
     slice-aggregate-print
     print-requires

@@ -1,12 +1,13 @@
--- `round` meets its contract: what the beginning refused is refused, and else the columns that it numbered are those of the whole code.
+-- `round` meets its contract: what the beginning refused is refused, and else the columns that it numbered are those of the sent places.
 use mathlib.Core.Path.{refl, _∙_, subst}
 use mathlib.Core.List.{List}
 use Prim.Native.Nat.{ℕ}
 use native.Mathlib.Omega.{arith}
 use Rattle.refusals.specs.Rules.{Rule}
 use Rattle.refusals.specs.declared.Outcome.the-variants.{Done, Refused}
-use Rattle.params.specs.Accepted.{n-short}
-use Rattle.columns.specs.BegunLaws.{begun-refuses, begun-places, begun-accepted, begun-columns, begun-long, begun-ends}
+use Rattle.shortened.specs.BegunLaws.{begun-refuses, begun-places, begun-accepted, begun-columns, begun-long, begun-ends}
+use Rattle.shortened.specs.Setting.{shortCode, places}
+use Rattle.shortened.specs.SettingLaws.{places-short}
 use Rattle.scheduler.specs.State.{stateOf}
 use Rattle.scheduler.specs.Round.{roundWaiting, roundNext, roundAnswers, roundHanded}
 use Rattle.scheduler.specs.Answers.{roundRules, roundFault, roundAnswer, waitingAfter, nextAfter, answersAfter, handedAfter}
@@ -19,6 +20,9 @@ use Rattle.scheduler.proofs.round.Tie as tie
 
 cast-senders : tie.Need-cast-senders
 cast-senders c = search needs
+
+sent-places-requires : tie.Need-sent-places-requires
+sent-places-requires c κs = search needs
 
 is-parts-length-requires : tie.Need-is-parts-length-requires
 is-parts-length-requires c κs = search needs
@@ -51,12 +55,8 @@ array-share-prefix-columns : tie.Need-array-share-prefix-columns
 array-share-prefix-columns c =
     let e = c .before .before .found2 .given .1 in
     let call = c .before .before .before .before .before .before .whole-code-inverses in
-    omega (
-      arith,
-      begun-places (call .ensures .0) e,
-      n-short (begun-accepted (call .ensures .0) e .2 .limits),
-      call .kept .1 .1 .1 .1 .0,
-    )
+    let (o, w, A, F) = begun-accepted (call .ensures .0) e in
+    omega (arith, begun-places (call .ensures .0) e, places-short A (shortCode _) F, call .kept .1 .1 .1 .1 .1 .0)
 
 slice-aggregate-round-on-2 : tie.Need-slice-aggregate-round-on-2
 slice-aggregate-round-on-2 c =
@@ -67,17 +67,17 @@ slice-aggregate-round-on-2 c =
 round-on-requires : tie.Need-round-on-requires
 round-on-requires c κs =
     let found = c .before .before .before .before .before .before .before .before .before .before .before in
-    let a = found .before .before .before .before .before .before .before .before .before .before .before .before .args in
+    let a = found .before .before .before .before .before .before .before .before .before .before .before .before .before .before .args in
     let σ = stateOf (a .waiting .now) (a .words .now) (a .next .now) in
     let begun =
     round-began (a .d) σ (a .answers .now) (a .handed .now) (found .whole-code-inverses .ensures .0)
     (found .before .before .before .before .is-parts-length .ensures)
-    (found .before .before .before .is-parts-length2 .ensures) in
+    (found .before .before .before .is-parts-length2 .ensures) (found .before .before .before .before .before .sent-places .ensures) in
     let e = c .before .before .before .before .before .before .before .found2 .given .1 in
     let (others, words, A, F) = begun-accepted begun e in (
       (begun-columns begun e, found .whole-code-inverses .ensures .1 _ e),
       subst (λ (n : ℕ). LentState (a .d) n σ (a .answers .now) (a .handed .now)) (begun-long begun e refl)
-          (lent-state (a .d) (a .c .n) σ (a .answers .now) (a .handed .now) others words),
+          (lent-state (a .d) (places (shortCode (a .hidden .now))) σ (a .answers .now) (a .handed .now) others words),
     )
 
 ended-requires : tie.Need-ended-requires
@@ -87,12 +87,12 @@ returns : tie.Need-returns
 unfolding roundAnswer waitingAfter nextAfter answersAfter handedAfter roundFault
 returns c =
     let found = c .before .before .before .before .before in
-    let a = found .before .before .before .before .before .before .before .before .before .before .before .before .args in
+    let a = found .before .before .before .before .before .before .before .before .before .before .before .before .before .before .args in
     let σ = stateOf (a .waiting .now) (a .words .now) (a .next .now) in
     let begun =
     round-began (a .d) σ (a .answers .now) (a .handed .now) (found .whole-code-inverses .ensures .0)
     (found .before .before .before .before .is-parts-length .ensures)
-    (found .before .before .before .is-parts-length2 .ensures) in
+    (found .before .before .before .is-parts-length2 .ensures) (found .before .before .before .before .before .sent-places .ensures) in
     let e = c .before .found .given .1 in (
       begun-refuses begun e _ Refused Done,
       (
@@ -121,12 +121,12 @@ unfolding roundAnswer waitingAfter nextAfter answersAfter handedAfter roundFault
 returns-2 c =
     let far = c .before .before .before .before .before .before .before .before .before .before .before .before .before .before .before .before in
     let found = far .before .before .before .before .before in
-    let a = found .before .before .before .before .before .before .before .before .before .before .before .before .args in
+    let a = found .before .before .before .before .before .before .before .before .before .before .before .before .before .before .args in
     let σ = stateOf (a .waiting .now) (a .words .now) (a .next .now) in
     let begun =
     round-began (a .d) σ (a .answers .now) (a .handed .now) (found .whole-code-inverses .ensures .0)
     (found .before .before .before .before .is-parts-length .ensures)
-    (found .before .before .before .is-parts-length2 .ensures) in
+    (found .before .before .before .is-parts-length2 .ensures) (found .before .before .before .before .before .sent-places .ensures) in
     let e = far .before .found2 .given .1 in
     let ends = c .before .before .before .before .before .before .before .before .before .round-on .ensures in
     let more : List ℕ → List Rule = λ cols. roundRules (a .d) σ cols in
@@ -149,6 +149,7 @@ round-spec =
     tie.close
     (tie.spec
     cast-senders
+    sent-places-requires
     is-parts-length-requires
     is-parts-length-requires-2
     slice-aggregate-whole-code-inverses

@@ -4,7 +4,7 @@ use mathlib.Core.List.{List, [], _∷_}
 use lib.ListN.{replicate}
 use Rattle.refusals.specs.Rules.{Rule}
 use Rattle.refusals.specs.declared.Outcome.the-variants.{Done, Refused}
-use Rattle.columns.specs.BegunLaws.{begun-refuses, begun-accepted, begun-ends}
+use Rattle.shortened.specs.BegunLaws.{begun-refuses, begun-accepted, begun-ends}
 use Rattle.scheduler.specs.State.{dashRules}
 use Rattle.scheduler.specs.Answers.{startLengths, startFault, startAnswer, startWaiting, startNext}
 use Rattle.scheduler.proofs.Beginning.{start-lent}
@@ -12,8 +12,8 @@ use borrow.Author.Needs.{needs}
 use Rattle.scheduler.proofs.start.Statement.{statement}
 use Rattle.scheduler.proofs.start.Tie as tie
 
-cast-t11 : tie.Need-cast-t11
-cast-t11 c = search needs
+cast-t12 : tie.Need-cast-t12
+cast-t12 c = search needs
 
 slice-aggregate-whole-code : tie.Need-slice-aggregate-whole-code
 slice-aggregate-whole-code c = search needs
@@ -31,7 +31,7 @@ start-on-requires : tie.Need-start-on-requires
 unfolding startLengths
 start-on-requires c κs =
     let found = c .before .before .before .before .before in
-    let a = found .before .before .before .before .before .before .args in
+    let a = found .before .before .before .before .before .before .before .args in
     start-lent (a .d) (a .waiting .now) (a .next .now) (begun-accepted (found .whole-code .ensures) (c .before .before .enum-told .given .1) .0)
 
 ended-requires : tie.Need-ended-requires
@@ -41,7 +41,7 @@ returns : tie.Need-returns
 unfolding startAnswer startWaiting startNext startFault startLengths
 returns c =
     let found = c .before .before .before .before in
-    let a = found .before .before .before .before .before .before .args in
+    let a = found .before .before .before .before .before .before .before .args in
     let begun = found .whole-code .ensures in
     let e = c .before .found .given .1 in
     (begun-refuses begun e _ Refused Done, (begun-refuses begun e _ (λ k. a .waiting .now) _, begun-refuses begun e _ (λ k. a .next .now) _))
@@ -56,7 +56,7 @@ returns-2 : tie.Need-returns-2
 unfolding startAnswer startWaiting startNext startFault startLengths
 returns-2 c =
     let found = c .before .before .before .before .before .before .before .before .before .before .before in
-    let a = found .before .before .before .before .before .before .args in
+    let a = found .before .before .before .before .before .before .before .args in
     let begun = found .whole-code .ensures in
     let e = c .before .before .before .before .before .before .before .before .enum-told .given .1 in
     let call = c .before .before .before .before .before .start-on .ensures in
@@ -68,7 +68,7 @@ pub start-spec : {M : Type 1} → statement M
 start-spec =
     tie.close
     (tie.spec
-    cast-t11
+    cast-t12
     slice-aggregate-whole-code
     whole-code-requires
     enum-known-found

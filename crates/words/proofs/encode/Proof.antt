@@ -1,11 +1,14 @@
 -- `encode` meets its contract: it begins at the whole code.
-use Rattle.columns.specs.Setting.{Setting.wholeCode}
+use lib.Dec.{eqb}
+use lib.ListN.{length}
+use Rattle.shortened.specs.BegunLaws.{begun-sent}
+use Rattle.shortened.specs.Setting.{shortCode}
 use borrow.Author.Needs.{needs}
 use Rattle.words.proofs.encode.Statement.{statement}
 use Rattle.words.proofs.encode.Tie as tie
 
-cast-t9 : tie.Need-cast-t9
-cast-t9 c = search needs
+sent-places-requires : tie.Need-sent-places-requires
+sent-places-requires c κs = search needs
 
 slice-aggregate-whole-code : tie.Need-slice-aggregate-whole-code
 slice-aggregate-whole-code c = search needs
@@ -17,19 +20,29 @@ slice-aggregate-encode : tie.Need-slice-aggregate-encode
 slice-aggregate-encode c = search needs
 
 encode-requires : tie.Need-encode-requires
-encode-requires c κs = record { at = wholeCode; begun = c .before .before .before .whole-code .ensures }
+encode-requires c κs =
+    let a = c .before .before .before .before .before .before .before .before .before .before .args in
+    record {
+      at = shortCode _;
+      begun = begun-sent (eqb (length (a .word .now))) (c .before .before .before .whole-code .ensures)
+          (c .before .before .before .before .before .sent-places .ensures);
+    }
 
 same-length : tie.Need-same-length
 same-length c = search needs
 
 returns : tie.Need-returns
-returns c = c .before .before .encode .ensures wholeCode (c .before .before .before .before .before .before .whole-code .ensures)
+returns c =
+    let a = c .before .before .before .before .before .before .before .before .before .before .before .before .before .args in
+    c .before .before .encode .ensures (shortCode _)
+    (begun-sent (eqb (length (a .word .now))) (c .before .before .before .before .before .before .whole-code .ensures)
+    (c .before .before .before .before .before .before .before .before .sent-places .ensures))
 
 pub encode-spec : {M : Type 1} → statement M
 encode-spec =
     tie.close
     (tie.spec
-    cast-t9
+    sent-places-requires
     slice-aggregate-whole-code
     whole-code-requires
     slice-aggregate-encode

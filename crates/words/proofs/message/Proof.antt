@@ -1,11 +1,14 @@
 -- `message` meets its contract: it begins at the whole code.
-use Rattle.columns.specs.Setting.{Setting.wholeCode}
+use lib.Dec.{eqb}
+use lib.ListN.{length}
+use Rattle.shortened.specs.BegunLaws.{begun-sent}
+use Rattle.shortened.specs.Setting.{shortCode}
 use borrow.Author.Needs.{needs}
 use Rattle.words.proofs.message.Statement.{statement}
 use Rattle.words.proofs.message.Tie as tie
 
-cast-t9 : tie.Need-cast-t9
-cast-t9 c = search needs
+sent-places-requires : tie.Need-sent-places-requires
+sent-places-requires c κs = search needs
 
 slice-aggregate-whole-code : tie.Need-slice-aggregate-whole-code
 slice-aggregate-whole-code c = search needs
@@ -17,19 +20,29 @@ slice-aggregate-message : tie.Need-slice-aggregate-message
 slice-aggregate-message c = search needs
 
 message-requires : tie.Need-message-requires
-message-requires c κs = record { at = wholeCode; begun = c .before .before .before .whole-code .ensures }
+message-requires c κs =
+    let a = c .before .before .before .before .before .before .before .before .before .before .args in
+    record {
+      at = shortCode _;
+      begun = begun-sent (eqb (length (a .word .now))) (c .before .before .before .whole-code .ensures)
+          (c .before .before .before .before .before .sent-places .ensures);
+    }
 
 same-length : tie.Need-same-length
 same-length c = search needs
 
 returns : tie.Need-returns
-returns c = c .before .before .message .ensures wholeCode (c .before .before .before .before .before .before .whole-code .ensures)
+returns c =
+    let a = c .before .before .before .before .before .before .before .before .before .before .before .before .before .args in
+    c .before .before .message .ensures (shortCode _)
+    (begun-sent (eqb (length (a .word .now))) (c .before .before .before .before .before .before .whole-code .ensures)
+    (c .before .before .before .before .before .before .before .before .sent-places .ensures))
 
 pub message-spec : {M : Type 1} → statement M
 message-spec =
     tie.close
     (tie.spec
-    cast-t9
+    sent-places-requires
     slice-aggregate-whole-code
     whole-code-requires
     slice-aggregate-message

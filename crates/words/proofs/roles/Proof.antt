@@ -1,37 +1,41 @@
 -- `roles` meets its contract: it begins at the whole code.
-use Rattle.columns.specs.Setting.{Setting.wholeCode}
+use Rattle.columns.specs.Choice.{Choice.wholeCode}
 use borrow.Author.Needs.{needs}
 use Rattle.words.proofs.roles.Statement.{statement}
 use Rattle.words.proofs.roles.Tie as tie
 
-cast-t8 : tie.Need-cast-t8
-cast-t8 c = search needs
+cast-n : tie.Need-cast-n
+cast-n c = search needs
 
-slice-aggregate-whole-code : tie.Need-slice-aggregate-whole-code
-slice-aggregate-whole-code c = search needs
+slice-aggregate-whole-columns : tie.Need-slice-aggregate-whole-columns
+slice-aggregate-whole-columns c = search needs
 
-whole-code-requires : tie.Need-whole-code-requires
-whole-code-requires c κs = search needs
+slice-aggregate-whole-columns-2 : tie.Need-slice-aggregate-whole-columns-2
+slice-aggregate-whole-columns-2 c = search needs
+
+whole-columns-requires : tie.Need-whole-columns-requires
+whole-columns-requires c κs = search needs
 
 slice-aggregate-roles : tie.Need-slice-aggregate-roles
 slice-aggregate-roles c = search needs
 
 roles-requires : tie.Need-roles-requires
-roles-requires c κs = record { at = wholeCode; begun = c .before .before .before .whole-code .ensures }
+roles-requires c κs = record { at = wholeCode; listed = c .before .before .before .before .whole-columns .ensures .0 }
 
 same-length : tie.Need-same-length
 same-length c = search needs
 
 returns : tie.Need-returns
-returns c = c .before .before .roles .ensures wholeCode (c .before .before .before .before .before .before .whole-code .ensures)
+returns c = c .before .before .roles .ensures wholeCode (c .before .before .before .before .before .before .before .whole-columns .ensures .0)
 
 pub roles-spec : {M : Type 1} → statement M
 roles-spec =
     tie.close
     (tie.spec
-    cast-t8
-    slice-aggregate-whole-code
-    whole-code-requires
+    cast-n
+    slice-aggregate-whole-columns
+    slice-aggregate-whole-columns-2
+    whole-columns-requires
     slice-aggregate-roles
     roles-requires
     same-length

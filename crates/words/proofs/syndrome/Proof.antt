@@ -1,14 +1,17 @@
 -- `syndrome` meets its contract: it begins at the whole code.
-use Rattle.columns.specs.Setting.{Setting.wholeCode}
+use lib.Dec.{eqb}
+use lib.ListN.{length}
+use Rattle.shortened.specs.BegunLaws.{begun-sent}
+use Rattle.shortened.specs.Setting.{shortCode}
 use borrow.Author.Needs.{needs}
 use Rattle.words.proofs.syndrome.Statement.{statement}
 use Rattle.words.proofs.syndrome.Tie as tie
 
-cast-t9 : tie.Need-cast-t9
-cast-t9 c = search needs
+cast-t10 : tie.Need-cast-t10
+cast-t10 c = search needs
 
-cast-t12 : tie.Need-cast-t12
-cast-t12 c = search needs
+sent-places-requires : tie.Need-sent-places-requires
+sent-places-requires c κs = search needs
 
 slice-aggregate-whole-code : tie.Need-slice-aggregate-whole-code
 slice-aggregate-whole-code c = search needs
@@ -20,20 +23,30 @@ slice-aggregate-syndrome : tie.Need-slice-aggregate-syndrome
 slice-aggregate-syndrome c = search needs
 
 syndrome-requires : tie.Need-syndrome-requires
-syndrome-requires c κs = record { at = wholeCode; begun = c .before .before .before .whole-code .ensures }
+syndrome-requires c κs =
+    let a = c .before .before .before .before .before .before .before .before .before .before .before .args in
+    record {
+      at = shortCode _;
+      begun = begun-sent (eqb (length (a .word .now))) (c .before .before .before .whole-code .ensures)
+          (c .before .before .before .before .before .sent-places .ensures);
+    }
 
 same-length : tie.Need-same-length
 same-length c = search needs
 
 returns : tie.Need-returns
-returns c = c .before .before .syndrome .ensures wholeCode (c .before .before .before .before .before .before .whole-code .ensures)
+returns c =
+    let a = c .before .before .before .before .before .before .before .before .before .before .before .before .before .before .args in
+    c .before .before .syndrome .ensures (shortCode _)
+    (begun-sent (eqb (length (a .word .now))) (c .before .before .before .before .before .before .whole-code .ensures)
+    (c .before .before .before .before .before .before .before .before .sent-places .ensures))
 
 pub syndrome-spec : {M : Type 1} → statement M
 syndrome-spec =
     tie.close
     (tie.spec
-    cast-t9
-    cast-t12
+    cast-t10
+    sent-places-requires
     slice-aggregate-whole-code
     whole-code-requires
     slice-aggregate-syndrome

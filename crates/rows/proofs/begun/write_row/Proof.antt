@@ -1,7 +1,7 @@
 -- `begun::write_row` meets its contract: what the beginning refused is refused, and else the columns that it numbered are those of the setting.
 use mathlib.Core.Path.{_∙_}
 use borrow.Author.Tests.{eqb-true}
-use Rattle.columns.specs.BegunLaws.{begun-refuses-both, begun-places, begun-accepted, begun-columns, begun-long, begun-ends}
+use Rattle.shortened.specs.BegunLaws.{begun-refuses-both, begun-places, begun-accepted, begun-columns, begun-long, begun-ends}
 use Rattle.rows.specs.Answers.{writeRules, rowWord, writeFault, writeAnswer, writeAfter}
 use borrow.Author.Needs.{needs}
 use Rattle.rows.proofs.begun.write_row.Statement.{statement}

@@ -4,7 +4,7 @@ use lib.ListN.{length}
 use borrow.Author.Tests.{eqb-true}
 use Rattle.slices.specs.Bits.{allBits}
 use Rattle.parity.specs.Columns.{dimension, messageOf}
-use Rattle.columns.specs.BegunLaws.{begun-refuses-both, begun-places, begun-accepted, begun-columns, begun-long, begun-ends}
+use Rattle.shortened.specs.BegunLaws.{begun-refuses-both, begun-places, begun-accepted, begun-columns, begun-long, begun-ends}
 use Rattle.messages.specs.MessageRules.{messageRules}
 use Rattle.words.specs.Answers.{messageFault, messageAnswer, messageAfter}
 use borrow.Author.Needs.{needs}

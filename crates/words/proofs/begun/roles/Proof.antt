@@ -1,11 +1,18 @@
--- `begun::roles` meets its contract: what the beginning refused is refused, and else the columns that it numbered are those of the setting.
+-- `begun::roles` meets its contract: what the beginning refused is refused, and else the columns that it numbered are those of the choice.
 use mathlib.Core.Path.{sym, ap, _∙_}
+use mathlib.Core.Bool.{true}
+use mathlib.Core.List.{List}
+use Prim.Native.Nat.{ℕ}
+use lib.Dec.{eqb}
+use lib.ListN.{length}
 use borrow.Author.Tests.{eqb-true}
+use Rattle.algebra.specs.Flags.{both-true}
 use Rattle.refusals.specs.declared.Counted.the-variants.{Count, Refused}
-use Rattle.refusals.specs.RuleLaws.{refuse, given}
-use Rattle.parity.specs.Columns.{rolesOf, dimension}
-use Rattle.columns.specs.BegunLaws.{begun-due, begun-none, begun-places, begun-accepted, begun-numbered, begun-columns, begun-long}
-use Rattle.words.specs.Answers.{rolesFault, rolesAnswer, rolesAfter}
+use Rattle.refusals.specs.Rules.{Rule}
+use Rattle.parity.specs.Columns.{rolesOf}
+use Rattle.columns.specs.ListedLaws.{listed-refuses, listed-places, listed-accepted, listed-columns, listed-long, listed-passes}
+use Rattle.shortened.specs.Marks.{sentDimension, markRules}
+use Rattle.words.specs.Answers.{rolesRules, rolesFault, rolesAnswer, rolesAfter}
 use borrow.Author.Needs.{needs}
 use Rattle.words.proofs.begun.roles.Statement.{statement}
 use Rattle.words.proofs.begun.roles.Tie as tie
@@ -16,42 +23,42 @@ enum-known-found c = search needs
 enum-known-found-2 : tie.Need-enum-known-found-2
 enum-known-found-2 c = search needs
 
-cast-roles : tie.Need-cast-roles
-cast-roles c = search needs
+cast-short-roles : tie.Need-cast-short-roles
+cast-short-roles c = search needs
 
-slice-aggregate-roles : tie.Need-slice-aggregate-roles
-slice-aggregate-roles c =
+slice-aggregate-short-roles : tie.Need-slice-aggregate-short-roles
+slice-aggregate-short-roles c =
     let e = c .before .before .found2 .given .1 in
-    let begun = c .before .before .before .before .before .before .before .pre .begun in
-    begun-long begun e (begun-places begun e)
+    let listed = c .before .before .before .before .before .before .before .before .pre .listed in
+    listed-long listed e (listed-places listed e)
 
-roles-requires : tie.Need-roles-requires
-roles-requires c κs =
+short-roles-requires : tie.Need-short-roles-requires
+short-roles-requires c κs =
     let e = c .before .before .before .found2 .given .1 in
-    let begun = c .before .before .before .before .before .before .before .before .pre .begun in
-    (begun-columns begun e, begun-long begun e (eqb-true _ _ (begun-accepted begun e .1)))
+    let listed = c .before .before .before .before .before .before .before .before .before .pre .listed in
+    let (marks, out) = both-true _ _ (listed-accepted listed e .1) in
+    (listed-columns listed e, listed-long listed e (eqb-true _ _ marks), listed-long listed e (eqb-true _ _ out))
 
 returns : tie.Need-returns
-unfolding rolesAnswer rolesAfter rolesFault
+unfolding rolesAnswer rolesAfter rolesFault rolesRules
 returns c =
-    let out = c .before .before .before .before .before .before .args .out .now in
-    λ s begun.
-    let (due, ne) = begun-due begun (c .before .found .given .1) in (refuse Refused _ due ne, refuse (λ i. out) _ due ne)
+    let out = c .before .before .before .before .before .before .before .args .out .now in
+    let e = c .before .found .given .1 in
+    λ s listed. (listed-refuses listed e _ Refused _, listed-refuses listed e _ (λ i. out) _)
 
 same-length : tie.Need-same-length
 same-length c = search needs
 
 returns-2 : tie.Need-returns-2
-unfolding rolesAnswer rolesAfter rolesFault
+unfolding rolesAnswer rolesAfter rolesFault rolesRules
 returns-2 c =
-    let a = c .before .before .before .before .before .before .before .before .before .before .before .args in
-    let (count, roles) = c .before .before .roles .ensures in
+    let a = c .before .before .before .before .before .before .before .before .before .before .before .before .args in
+    let (count, roles) = c .before .before .short-roles .ensures in
     let e = c .before .before .before .before .before .before .found2 .given .1 in
-    λ s begun.
-    let numbered = begun-numbered begun e in
-    let none = begun-none begun e in (
-      ap Count (count ∙ ap (dimension (a .c) (a .h .now)) numbered) ∙ sym (given Refused _ none),
-      roles ∙ ap (rolesOf (a .c) (a .h .now)) numbered ∙ sym (given (λ i. a .out .now) _ none),
+    let marks : List ℕ → List Rule = λ cols. markRules (a .c) (a .h .now) cols (a .hidden .now) true in
+    λ s listed. (
+      listed-passes listed e marks Refused (λ cols. Count (sentDimension (a .c) (a .h .now) cols (a .hidden .now))) count,
+      listed-passes listed e marks (λ i. a .out .now) (λ cols. rolesOf (a .c) (a .h .now) cols) roles,
     )
 
 pub roles-spec : {M : Type 1} → statement M
@@ -60,9 +67,9 @@ roles-spec =
     (tie.spec
     enum-known-found
     enum-known-found-2
-    cast-roles
-    slice-aggregate-roles
-    roles-requires
+    cast-short-roles
+    slice-aggregate-short-roles
+    short-roles-requires
     returns
     same-length
     returns-2)

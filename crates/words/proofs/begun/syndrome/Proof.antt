@@ -2,7 +2,7 @@
 use mathlib.Core.Path.{_∙_}
 use borrow.Author.Tests.{eqb-true}
 use Rattle.parity.specs.Word.{syndromeOf}
-use Rattle.columns.specs.BegunLaws.{begun-refuses-both, begun-places, begun-accepted, begun-columns, begun-long, begun-ends}
+use Rattle.shortened.specs.BegunLaws.{begun-refuses-both, begun-places, begun-accepted, begun-columns, begun-long, begun-ends}
 use Rattle.words.specs.Answers.{bitRules, syndromeFault, syndromeAnswer, syndromeAfter}
 use borrow.Author.Needs.{needs}
 use Rattle.words.proofs.begun.syndrome.Statement.{statement}

@@ -1,28 +1,23 @@
 -- How a call goes on: what its beginning refuses is refused, and what that lets pass is left to the work for the columns that it numbered.
-use mathlib.Core.Path.{_≡_, refl, sym, ap, _∙_, subst}
+use mathlib.Core.Path.{_≡_, sym, ap, _∙_, subst}
 use mathlib.Core.Logic.{_≢_}
 use mathlib.Core.Bool.{Bool, true}
 use mathlib.Core.List.{List, _++_}
-use Prim.Native.Nat.{ℕ, zero, suc}
+use Prim.Native.Nat.{ℕ}
 use lib.ListN.{length, take}
 use Rattle.refusals.specs.declared.Counted.{Counted}
 use Rattle.refusals.specs.declared.Counted.the-variants.{Count, Refused as NotCounted}
 use Rattle.refusals.specs.declared.Outcome.the-variants.{Done, Refused}
-use Rattle.refusals.specs.Answered.{refused-due, counted-apart, same-counted}
 use Rattle.refusals.specs.Ending.{Ended, first-refuses, second-decides}
 use Rattle.refusals.specs.Rules.{Rule, fault, unless-refused}
 use Rattle.params.specs.declared.Parameters.{Parameters}
 use Rattle.params.specs.Code.{Accepted}
 use Rattle.parity.specs.Selected.{OnColumns}
-use Rattle.columns.specs.Begun.{Begun}
-use Rattle.columns.specs.Fits.{Fits}
-use Rattle.columns.specs.Setting.{Setting, places, columnsOf, settingRules}
-use Rattle.columns.specs.SettingLaws.{setting-numbered, setting-accepted, fits-columns, length-columns}
-
-counted-none : (n : ℕ) {p k : ℕ} → Count k ≡ unless-refused n NotCounted (Count p) → (n ≡ 0) × (k ≡ p)
-unfolding unless-refused
-counted-none zero e = (refl, cc)
-counted-none (suc n) {p} {k} e = absurd (counted-apart k (suc n) (sym e))
+use Rattle.columns.specs.ListedLaws.{found-due, found-none}
+use Rattle.shortened.specs.Begun.{Begun}
+use Rattle.shortened.specs.Fits.{Fits}
+use Rattle.shortened.specs.Setting.{Setting, places, columnsOf, settingRules}
+use Rattle.shortened.specs.SettingLaws.{setting-numbered, setting-accepted, fits-columns, length-columns}
 
 module _ {c : Parameters} {h : List ℕ} {s : Setting} {others words : Bool} {columns : List ℕ} {found : Counted}
     (B : Begun c h s others words columns found) where
@@ -30,11 +25,7 @@ module _ {c : Parameters} {h : List ℕ} {s : Setting} {others words : Bool} {co
 
   module _ {number : ℕ} (e : found ≡ NotCounted number) where
     pub begun-due : (number ≡ fault (settingRules c h s others words)) × (number ≢ 0)
-    begun-due =
-        let (ne, is) =
-        refused-due NotCounted (Count (places c s)) (counted-apart (places c s)) same-counted (fault (settingRules c h s others words))
-        (sym (B .answer) ∙ e) in
-        (sym is, λ z. ne (is ∙ z))
+    begun-due = found-due (settingRules c h s others words) (places s) (B .answer) e
 
     pub begun-refuses : {A : Type 0} (more : List Rule) (refused : ℕ → A) (value : A)
         → refused number ≡ unless-refused (fault (settingRules c h s others words ++ more)) refused value
@@ -50,12 +41,12 @@ module _ {c : Parameters} {h : List ℕ} {s : Setting} {others words : Bool} {co
 
   module _ {k : ℕ} (e : found ≡ Count k) where
     pub begun-none : fault (settingRules c h s others words) ≡ 0
-    begun-none = counted-none (fault (settingRules c h s others words)) (sym e ∙ B .answer) .0
+    begun-none = found-none (settingRules c h s others words) (places s) (B .answer) e .0
 
-    pub begun-places : k ≡ places c s
-    begun-places = counted-none (fault (settingRules c h s others words)) (sym e ∙ B .answer) .1
+    pub begun-places : k ≡ places s
+    begun-places = found-none (settingRules c h s others words) (places s) (B .answer) e .1
 
-    pub begun-accepted : (others ≡ true) × (words ≡ true) × Accepted c h × Fits c s
+    pub begun-accepted : (others ≡ true) × (words ≡ true) × Accepted c h × Fits c h s
     begun-accepted = setting-accepted c h s others words begun-none
 
     pub begun-numbered : take k columns ≡ columnsOf c s
@@ -66,7 +57,7 @@ module _ {c : Parameters} {h : List ℕ} {s : Setting} {others words : Bool} {co
         let (o, w, A, F) = begun-accepted in subst (OnColumns c h) (sym begun-numbered) (fits-columns A s F)
 
     -- a word has an entry for each column
-    pub begun-long : {l : ℕ} → l ≡ places c s → l ≡ length (take k columns)
+    pub begun-long : {l : ℕ} → l ≡ places s → l ≡ length (take k columns)
     begun-long q = q ∙ sym (ap length begun-numbered ∙ length-columns c s)
 
     -- What holds for the columns found holds at the setting: the rules of the call's own, and the value, depend on the columns.
@@ -92,3 +83,8 @@ module _ {c : Parameters} {h : List ℕ} {s : Setting} {others words : Bool} {co
 pub begun-as : {c : Parameters} {h : List ℕ} {s : Setting} {others words words′ : Bool} {columns : List ℕ} {found : Counted}
     → Begun c h s others words columns found → words ≡ words′ → Begun c h s others words′ columns found
 begun-as {c} {h} {s} {others} {columns = columns} {found = found} B e = subst (λ (w : Bool). Begun c h s others w columns found) e B
+
+-- `words` tests them by the number of sent places, which the call counted
+pub begun-sent : (words : ℕ → Bool) {c : Parameters} {h : List ℕ} {s : Setting} {others : Bool} {n : ℕ} {columns : List ℕ} {found : Counted}
+    → Begun c h s others (words n) columns found → n ≡ places s → Begun c h s others (words (places s)) columns found
+begun-sent words B e = begun-as B (ap words e)

@@ -1,0 +1,11 @@
+pub mod Marks
+pub mod Setting
+pub mod Unhidden
+pub mod Fits
+pub mod Begun
+pub mod MarkLaws
+pub mod SettingLaws
+pub mod ShortCode
+pub mod BegunLaws
+pub mod ShortMatrix
+pub mod NothingHidden
