@@ -14,7 +14,6 @@ enum { M = 16, N = 512, T = 16, STACK = 1 << 20, PAINT = 0xA5, MARGIN = 96 };
 
 static zov_elem h[N], roots[N], support[N], block[N], syndrome[T];
 static uint8_t roles[N], message[N], word[N], received[N], repaired[N];
-static uint32_t list[N];
 
 /* The code, with marks that hide one message column: that may ask for more than where nothing is hidden. */
 enum { SENT = N - 1 };
@@ -76,7 +75,6 @@ static int32_t word_message(void) { return zov_message(CODE, word, SENT, message
 static int32_t repair(void) { return zov_repair(CODE, received, SENT, repaired, SENT); }
 static int32_t write_row(void) { return zov_write_row(CODE, 1, 0, word, SENT); }
 static int32_t read_row(void) { return zov_read_row(CODE, received, SENT, repaired, SENT); }
-static int32_t critical_places(void) { return zov_critical_places(CODE, received, SENT, list, SENT); }
 static int32_t ride(void) {
     return zov_ride(CODE, gears, STEPS, lamps, STEPS, turned, STEPS * SENT, counts, 4);
 }
@@ -101,9 +99,6 @@ static int32_t selection_write_row(void) { return zov_selection_write_row(SELECT
 static int32_t selection_read_row(void) {
     return zov_selection_read_row(SELECTION, selected_received, LENGTH, repaired, LENGTH);
 }
-static int32_t selection_critical_places(void) {
-    return zov_selection_critical_places(SELECTION, selected_received, LENGTH, list, LENGTH);
-}
 static int32_t sheet(void) {
     return zov_sheet((const uint8_t *)text, text_length, (uint8_t *)listing, sizeof listing);
 }
@@ -119,9 +114,7 @@ static const struct call {
     {"zov_essence", code_essence},    {"zov_signature", essence_signature},
     {"zov_roles", code_roles},        {"zov_syndrome", word_syndrome},      {"zov_encode", encode},
     {"zov_message", word_message},    {"zov_repair", repair},
-    {"zov_write_row", write_row},     {"zov_read_row", read_row},
-    {"zov_critical_places", critical_places},
-    {"zov_ride", ride},
+    {"zov_write_row", write_row},     {"zov_read_row", read_row},           {"zov_ride", ride},
     {"zov_senders_start", senders_start},
     {"zov_senders_offer", senders_offer},
     {"zov_senders_round", senders_round},
@@ -132,7 +125,6 @@ static const struct call {
     {"zov_selection_repair", selection_repair},
     {"zov_selection_write_row", selection_write_row},
     {"zov_selection_read_row", selection_read_row},
-    {"zov_selection_critical_places", selection_critical_places},
     {"zov_sheet", sheet},
 };
 

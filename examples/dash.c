@@ -1,6 +1,5 @@
 /* A dash: takes words from the wire, repairs them and shows the row. A word that is refused leaves the last row on
- * the dash. Where one more turned bit would change what is said of a word, those bits are named. The wire is played
- * here: rows that a sender writes, and the places that the spark turns.
+ * the dash. The wire is played here: rows that a sender writes, and the places that the spark turns.
  *
  *     cc -Iinclude examples/dash.c target/staticlib/libcapi.a -o target/dash && target/dash */
 #include <stdint.h>
@@ -48,15 +47,6 @@ int main(void) {
             printf(" (repaired bits: %d)\n", read / 32);
         else
             printf(" (held, the word is refused by %d)\n", -read);
-
-        uint32_t places[N];
-        int32_t thin = zov_critical_places(M, N, T, OMEGA, H, N, HIDDEN, N, word, N, places, N);
-        if (thin > 0) {
-            printf("  thin: turning one of the bits ");
-            for (int32_t i = 0; i < thin; i++)
-                printf("%u ", places[i]);
-            printf("would change that\n");
-        }
     }
     return 0;
 }

@@ -123,18 +123,6 @@ int32_t zov_read_row(uint32_t m, uint32_t n, uint32_t t, uint32_t omega, const z
                      const uint8_t *hidden, size_t hidden_length, const uint8_t *received, size_t received_length,
                      uint8_t *repaired, size_t repaired_length);
 
-/* Which bit would change the call: the list of sent places whose turning, of one alone, changes what zov_read_row says
- * of the word received. What it says is the gear and the lamp, or the number of its refusal; the count is left out of
- * it. Places are numbered from 0 in the word as sent. The list goes to the front of `places`, the smallest first, and
- * its length is the value; the entries after it are left alone. `places` has an entry for each sent place. A value of 0
- * means that no single bit matters, as is the case wherever fewer than t places are repaired.
- *
- * Refused as zov_read_row is, by 1 to 7, 20, 2 (the length of `received` or of `places`), 12, 8, but never by 10 or 11:
- * a word that it refuses by one of these has a list too. */
-int32_t zov_critical_places(uint32_t m, uint32_t n, uint32_t t, uint32_t omega, const zov_elem *h, size_t h_length,
-                            const uint8_t *hidden, size_t hidden_length,
-                            const uint8_t *received, size_t received_length, uint32_t *places, size_t places_length);
-
 /* A ride of at most 1,000 steps. Each step writes the row of a gear and a lamp, turns the marked places of its word and
  * reads the row. `gears` and `lamps` have a byte for each step, so that gears_length is the number of steps; `turned`
  * has a byte for each sent place and each step, step after step, 1 for a place that is turned and 0 for another. Four
@@ -203,7 +191,7 @@ int32_t zov_senders_round(uint32_t m, uint32_t n, uint32_t t, uint32_t omega, co
  * Refused by 1 to 7 for the code and the length of a syndrome (t), then by 2 (blocks_length, shifts_length,
  * hidden_length, and roles_length other than blocks_length * t), 14 (a block of n / t or more, or one named twice), 15
  * (a shift of t or more) and 20, then by what refuses the function for the whole code after these: 2 (the lengths of
- * words, of a message and of the list `places`), 12, 8, 10, 11. */
+ * words and of a message), 12, 8, 10, 11. */
 int32_t zov_selection_roles(uint32_t m, uint32_t n, uint32_t t, uint32_t omega, const zov_elem *h, size_t h_length,
                             const uint32_t *blocks, size_t blocks_length, const uint32_t *shifts, size_t shifts_length,
                             const uint8_t *hidden, size_t hidden_length, uint8_t *roles, size_t roles_length);
@@ -237,13 +225,6 @@ int32_t zov_selection_read_row(uint32_t m, uint32_t n, uint32_t t, uint32_t omeg
                                const uint8_t *hidden, size_t hidden_length,
                                const uint8_t *received, size_t received_length,
                                uint8_t *repaired, size_t repaired_length);
-int32_t zov_selection_critical_places(uint32_t m, uint32_t n, uint32_t t, uint32_t omega,
-                                      const zov_elem *h, size_t h_length,
-                                      const uint32_t *blocks, size_t blocks_length,
-                                      const uint32_t *shifts, size_t shifts_length,
-                                      const uint8_t *hidden, size_t hidden_length,
-                                      const uint8_t *received, size_t received_length,
-                                      uint32_t *places, size_t places_length);
 
 /* The bench sheet: a code that hides nothing, as text of two lines, each number in six columns. The listing of that
  * code goes to the front of `out`; the value is its length, at most 12837. Refused by 13 (no sheet, or an n above 512

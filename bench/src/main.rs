@@ -21,7 +21,7 @@ type Shape = (u32, u32, u32);
 const SHAPES: [Shape; 7] =
     [(5, 16, 2), (8, 64, 4), (8, 128, 8), (8, 128, 64), (11, 512, 32), (16, 512, 8), (16, 512, 256)];
 
-const CALLS: [&str; 34] = [
+const CALLS: [&str; 32] = [
     "field sum",
     "field product",
     "field inverse",
@@ -40,7 +40,6 @@ const CALLS: [&str; 34] = [
     "repair",
     "write row",
     "read row",
-    "critical places",
     "short encode",
     "short repair",
     "step of a ride",
@@ -54,7 +53,6 @@ const CALLS: [&str; 34] = [
     "selection repair",
     "selection write row",
     "selection read row",
-    "selection critical places",
     "sheet",
 ];
 
@@ -236,10 +234,6 @@ macro_rules! product_word_call {
                 let received = words.row_received.as_deref()?;
                 Box::new(move || keep(of.read_row(received, &mut out).expect("t places")))
             }
-            "critical places" => {
-                let (received, mut places) = (words.row_received.as_deref()?, vec![0; words.length]);
-                Box::new(move || keep(of.critical_places(received, &mut places).expect("a word")))
-            }
             call => unreachable!("{call} is no call"),
         };
         Some(made)
@@ -273,13 +267,6 @@ fn rival_word_call<'a, Column: Fn(usize) -> usize>(
             Box::new(move || {
                 let columns = begin(&mut inverses);
                 black_box(columns.read_row(&inverses, received, &mut out).expect("t places"));
-            })
-        }
-        "critical places" => {
-            let (received, mut places) = (words.row_received.as_deref()?, vec![0; words.length]);
-            Box::new(move || {
-                let columns = begin(&mut inverses);
-                black_box(columns.critical_places(&inverses, received, &mut places).expect("a word"));
             })
         }
         call => unreachable!("{call} is no call"),

@@ -12,9 +12,6 @@ pub const LONGEST: usize = 512;
 /// The most roots of a code.
 const MOST_ROOTS: usize = LONGEST / 2;
 
-/// The message bits of a row.
-const ROW_BITS: usize = 5;
-
 /// The reduction word of each width, at the width. All are primitive: the powers of u, the number 2, are all elements
 /// but 0.
 const WORDS: [u32; 17] =
@@ -449,9 +446,9 @@ impl Basis {
         self.free(word.len()).map(|place| word[place])
     }
 
-    /// The bits of the message after those of the row are 0.
+    /// The bits of the message after these five are 0.
     pub fn write_row(&self, gear: u8, lamp: u8, word: &mut [u8]) {
-        self.encode((0..ROW_BITS).map(|place| (gear | lamp << 3) >> place & 1), word);
+        self.encode((0..5).map(|place| (gear | lamp << 3) >> place & 1), word);
     }
 }
 
@@ -521,16 +518,10 @@ impl<Column: Fn(usize) -> usize> Words<'_, Column> {
 
     /// The number of places turned, if the word can be repaired.
     pub fn repair(&self, inverses: &[Elem], received: &[u8], repaired: &mut [u8]) -> Option<u32> {
-        let mut syndrome = [0; MOST_ROOTS];
-        let syndrome = &mut syndrome[..self.code.t];
-        self.syndrome(received, syndrome);
-        self.repair_by(inverses, syndrome, received, repaired)
-    }
-
-    /// The same by the syndrome of the word received.
-    fn repair_by(&self, inverses: &[Elem], syndrome: &[Elem], received: &[u8], repaired: &mut [u8]) -> Option<u32> {
         let Code { field, t, omega, .. } = self.code;
-        if syndrome.iter().all(|&row| row == 0) {
+        let mut syndrome = [0; MOST_ROOTS];
+        self.syndrome(received, &mut syndrome[..t]);
+        if syndrome[..t].iter().all(|&row| row == 0) {
             repaired.copy_from_slice(received);
             return Some(0);
         }
@@ -579,11 +570,11 @@ impl<Column: Fn(usize) -> usize> Words<'_, Column> {
             word[j] = received[j] ^ u8::from(root);
             turned += u32::from(root);
         }
-        let word = &word[..self.length];
-        if turned as usize > t || !self.is_code_word(word) {
+        self.syndrome(&word[..self.length], &mut syndrome[..t]);
+        if turned as usize > t || syndrome[..t].iter().any(|&row| row != 0) {
             return None;
         }
-        repaired.copy_from_slice(word);
+        repaired.copy_from_slice(&word[..self.length]);
         Some(turned)
     }
 
@@ -601,57 +592,18 @@ impl<Column: Fn(usize) -> usize> Words<'_, Column> {
         let mut word = [0; LONGEST];
         let word = &mut word[..self.length];
         self.repair(inverses, received, word)?;
-        let number = row_of(basis, word)?;
+        let mut message = basis.message(word);
+        let mut number = 0;
+        for place in 0..5 {
+            number |= u32::from(message.next()?) << place;
+        }
+        let (gear, lamp) = (number % 8, number / 8);
+        if message.any(|bit| bit == 1) || lamp > 2 || lamp == 1 && gear != 0 && gear != 7 {
+            return None;
+        }
         repaired.copy_from_slice(word);
         Some(number)
     }
-
-    /// How many places there are whose turning changes the call, if the word is one of bits and rows fit. They are at
-    /// the front of `places`.
-    pub fn critical_places(&self, inverses: &[Elem], received: &[u8], places: &mut [u32]) -> Option<usize> {
-        let basis = self.basis();
-        if basis.free(self.length).count() < ROW_BITS || !are_bits(received) {
-            return None;
-        }
-        let (mut word, mut repaired, mut syndrome) = ([0; LONGEST], [0; LONGEST], [0; MOST_ROOTS]);
-        let (word, repaired) = (&mut word[..self.length], &mut repaired[..self.length]);
-        let syndrome = &mut syndrome[..self.code.t];
-        word.copy_from_slice(received);
-        self.syndrome(word, syndrome);
-        // None for a word that is too far, and none inside for one that carries no row.
-        let mut call = |word: &[u8], syndrome: &[Elem]| {
-            self.repair_by(inverses, syndrome, word, repaired).map(|_| row_of(&basis, repaired))
-        };
-        let said = call(word, syndrome);
-        let mut count = 0;
-        for place in 0..self.length {
-            self.turn(place, word, syndrome);
-            if call(word, syndrome) != said {
-                places[count] = place as u32;
-                count += 1;
-            }
-            self.turn(place, word, syndrome);
-        }
-        Some(count)
-    }
-
-    /// Turns a place of a word, and adds its column to the word's syndrome.
-    fn turn(&self, place: usize, word: &mut [u8], syndrome: &mut [Elem]) {
-        word[place] ^= 1;
-        syndrome.iter_mut().enumerate().for_each(|(i, row)| *row ^= self.entry(i, place));
-    }
-}
-
-/// gear + 8 × lamp of the row that a code word carries, if it does.
-fn row_of(basis: &Basis, word: &[u8]) -> Option<u32> {
-    let mut message = basis.message(word);
-    let mut number = 0;
-    for place in 0..ROW_BITS {
-        number |= u32::from(message.next()?) << place;
-    }
-    let (gear, lamp) = (number % 8, number / 8);
-    let row = message.all(|bit| bit == 0) && lamp <= 2 && (lamp != 1 || gear == 0 || gear == 7);
-    row.then_some(number)
 }
 
 /// Several senders on one code, with a word of each.

@@ -1,6 +1,5 @@
 //! A dash: takes words from the wire, repairs them and shows the row. A word that is refused leaves the last row on the
-//! dash. Where one more turned bit would change what is said of a word, those bits are named. The wire is played here:
-//! rows that a sender writes, and the places that the spark turns.
+//! dash. The wire is played here: rows that a sender writes, and the places that the spark turns.
 //!
 //!     cargo run --offline --manifest-path rust/Cargo.toml --example dash
 
@@ -41,12 +40,6 @@ fn main() -> Result<(), Refusal> {
         match reading {
             Ok(reading) => println!(" (repaired bits: {})", reading.count),
             Err(refusal) => println!(" (held, the word is refused by {})", refusal.number()),
-        }
-        let mut places = [0; 16];
-        let thin = CODE.critical_places(&word, &mut places)?;
-        if !thin.is_empty() {
-            let bits: Vec<String> = thin.iter().map(u32::to_string).collect();
-            println!("  thin: turning one of the bits {} would change that", bits.join(" "));
         }
     }
     Ok(())

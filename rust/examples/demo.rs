@@ -1,6 +1,5 @@
 //! What the proved library does for a card: its sheet and its essence, a row sent and repaired, a word that is too far,
-//! which single bits would change what is read from these two, and every row with every one bit turned and, unless the
-//! words are long, every two.
+//! and every row with every one bit turned and, unless the words are long, every two.
 //!
 //!     bash demo              card T, the toy example
 //!     bash demo SHEET        the card on a sheet
@@ -27,8 +26,8 @@ fn bits(word: &[u8]) -> String {
 }
 
 /// "0 and 8", "3".
-fn named<Place: ToString>(places: &[Place]) -> String {
-    let names: Vec<String> = places.iter().map(Place::to_string).collect();
+fn named(places: &[usize]) -> String {
+    let names: Vec<String> = places.iter().map(usize::to_string).collect();
     match names.split_last() {
         Some((last, [])) => last.clone(),
         Some((last, first)) => format!("{} and {last}", first.join(", ")),
@@ -51,14 +50,11 @@ fn written(code: &Code, row: Row) -> Vec<u8> {
     word
 }
 
-/// What is read, and the bits of which each by itself would change that.
 fn show_reading(code: &Code, received: &[u8]) {
     match code.read_row(received, &mut vec![0; received.len()]) {
         Ok(reading) => println!("  read      {}, repaired bits: {}", reading.row, reading.count),
         Err(refusal) => println!("  refused   {refusal}"),
     }
-    let mut places = vec![0; received.len()];
-    println!("  critical  {}", named(code.critical_places(received, &mut places).expect("a word")));
 }
 
 /// A row is sent, at most t bits are turned, and it is read.

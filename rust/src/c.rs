@@ -173,20 +173,6 @@ extern "C" {
         repaired: *mut u8,
         repaired_length: usize,
     ) -> i32;
-    pub fn zov_critical_places(
-        m: u32,
-        n: u32,
-        t: u32,
-        omega: u32,
-        h: *const Elem,
-        h_length: usize,
-        hidden: *const u8,
-        hidden_length: usize,
-        received: *const u8,
-        received_length: usize,
-        places: *mut u32,
-        places_length: usize,
-    ) -> i32;
     pub fn zov_ride(
         m: u32,
         n: u32,
@@ -385,24 +371,6 @@ extern "C" {
         received_length: usize,
         repaired: *mut u8,
         repaired_length: usize,
-    ) -> i32;
-    pub fn zov_selection_critical_places(
-        m: u32,
-        n: u32,
-        t: u32,
-        omega: u32,
-        h: *const Elem,
-        h_length: usize,
-        blocks: *const u32,
-        blocks_length: usize,
-        shifts: *const u32,
-        shifts_length: usize,
-        hidden: *const u8,
-        hidden_length: usize,
-        received: *const u8,
-        received_length: usize,
-        places: *mut u32,
-        places_length: usize,
     ) -> i32;
     pub fn zov_sheet(text: *const u8, text_length: usize, out: *mut u8, out_length: usize) -> i32;
 }

@@ -46,29 +46,6 @@ pub(crate) const LONGEST: usize = 512;
 /// assert_eq!(refused.check(&mut [0; 16], &mut [0; 16]), Err(Refusal::Hidden));
 /// # Ok::<(), Refusal>(())
 /// ```
-///
-/// How thin a reading was is told by the places whose single turning would change it:
-///
-/// ```
-/// # use zovunelith::{nothing_hidden, Code, Lamp, Refusal, Row};
-/// # let h = [12, 8, 10, 22, 26, 9, 16, 21, 14, 5, 17, 4, 30, 23, 25, 31];
-/// # let code = Code { m: 5, n: 16, t: 2, omega: 24, h: &h, hidden: nothing_hidden(16) };
-/// let (mut word, mut places) = ([0; 16], [0; 16]);
-/// code.write_row(Row { gear: 1, lamp: Lamp::Dark }, &mut word)?;
-/// assert!(code.critical_places(&word, &mut places)?.is_empty());
-///
-/// // With two bits turned, which is all that this code repairs, any other one would be too many.
-/// word[0] ^= 1;
-/// word[8] ^= 1;
-/// let list: &[u32] = code.critical_places(&word, &mut places)?;
-/// assert_eq!(list, [1, 2, 3, 4, 5, 6, 7, 9, 10, 11, 12, 13, 14, 15]);
-///
-/// // A third makes the word too far; turning one of these would have it read again.
-/// word[1] ^= 1;
-/// assert_eq!(code.read_row(&word, &mut [0; 16]), Err(Refusal::TooFar));
-/// assert_eq!(code.critical_places(&word, &mut places)?, [0, 1, 8]);
-/// # Ok::<(), Refusal>(())
-/// ```
 #[derive(Clone, Copy, Debug, PartialEq, Eq)]
 pub struct Code<'a> {
     /// The width of the field, 2 to 16.
@@ -141,5 +118,5 @@ impl Code<'_> {
 
 calls_on_words! {
     Code, "1 to 7, 20", call,
-    zov_roles, zov_syndrome, zov_encode, zov_message, zov_repair, zov_write_row, zov_read_row, zov_critical_places
+    zov_roles, zov_syndrome, zov_encode, zov_message, zov_repair, zov_write_row, zov_read_row
 }

@@ -7,8 +7,8 @@
 //! are lent by the caller and are left alone by a call that is refused, with one exception: a ride that ends by 8 or 11
 //! writes the counts up to there ([`Code::ride`], which also takes room to work in). For senders with fewer bits a card
 //! marks message columns as hidden ([`Code`] has an example); with [`nothing_hidden`] it sends all. A [`Selection`] has
-//! the calls on words for some blocks of a code. How thin a row was is told by [`Code::critical_places`]. [`Senders`]
-//! take turns at one dash. A signature has a short form, its [`essence`].
+//! the calls on words for some blocks of a code. [`Senders`] take turns at one dash. A signature has a short form, its
+//! [`essence`].
 //!
 //! ```
 //! use zovunelith::{nothing_hidden, Code, Lamp, Refusal, Row};

@@ -71,12 +71,6 @@ use crate::{Code, Elem, Reading, Refusal, Row};
 /// let reading = loom.read_row(&word, &mut repaired)?;
 /// assert_eq!((reading.row, reading.count), (Row { gear: 1, lamp: Lamp::Dark }, 1));
 ///
-/// // One turned bit leaves room for another, whichever it is. Two do not: any further one would change the call.
-/// let mut places = [0; 16];
-/// assert!(loom.critical_places(&word, &mut places)?.is_empty());
-/// word[9] ^= 1;
-/// assert_eq!(loom.critical_places(&word, &mut places)?, [0, 1, 2, 3, 5, 6, 7, 8, 10, 11, 12, 13, 14, 15]);
-///
 /// let twice = Selection { code, blocks: &[6, 6], shifts: &[0, 1], hidden: nothing_hidden(4) };
 /// assert_eq!(twice.roles(&mut [0; 4]), Err(Refusal::NoSuchBlock));
 /// # Ok::<(), Refusal>(())
@@ -115,5 +109,5 @@ macro_rules! call_selected {
 calls_on_words! {
     Selection, "1 to 7, 2, 14, 15, 20", call_selected,
     zov_selection_roles, zov_selection_syndrome, zov_selection_encode, zov_selection_message, zov_selection_repair,
-    zov_selection_write_row, zov_selection_read_row, zov_selection_critical_places
+    zov_selection_write_row, zov_selection_read_row
 }

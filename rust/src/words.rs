@@ -17,8 +17,7 @@ pub(crate) const fn sent_places(hidden: &[u8]) -> usize {
 macro_rules! calls_on_words {
     (
         $type:ident, $refused:literal, $call:ident,
-        $roles:ident, $syndrome:ident, $encode:ident, $message:ident, $repair:ident, $write_row:ident, $read_row:ident,
-        $critical_places:ident
+        $roles:ident, $syndrome:ident, $encode:ident, $message:ident, $repair:ident, $write_row:ident, $read_row:ident
     ) => {
         impl $type<'_> {
             /// The number of sent places, for the sizes of buffers: a word has as many bytes. It is counted from the
@@ -77,19 +76,6 @@ macro_rules! calls_on_words {
                 let (word, length) = (received.as_ptr(), received.len());
                 let value = answer($call!(self, $read_row, word, length, repaired.as_mut_ptr(), repaired.len()))?;
                 Ok(Reading::of(value))
-            }
-
-            /// Which bit would change the call: the list of sent places whose turning, of one alone, changes what
-            /// [`read_row`](Self::read_row) says of the word received, the smallest first. What it says is the row or
-            /// the refusal; the count is left out of it. Places are numbered from 0 in the word as sent. The list is
-            /// the front of `places`, which has an entry for each sent place; the entries after it are left alone. An
-            /// empty list means that no single bit matters, as is the case wherever fewer than t places are repaired.
-            #[doc = concat!("Refused by ", $refused, ", 2 (the length of the word or of `places`), 12, 8,")]
-            /// but never by 10 or 11: a word that `read_row` refuses by one of these has a list too.
-            pub fn critical_places<'p>(&self, received: &[u8], places: &'p mut [u32]) -> Result<&'p [u32], Refusal> {
-                let (word, length) = (received.as_ptr(), received.len());
-                let count = answer($call!(self, $critical_places, word, length, places.as_mut_ptr(), places.len()))?;
-                Ok(&places[..count as usize])
             }
         }
     };

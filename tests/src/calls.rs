@@ -1,16 +1,15 @@
-//! The eight calls on words, of a whole code or of a selection, and what each of them is told and lent; and all of them
+//! The seven calls on words, of a whole code or of a selection, and what each of them is told and lent; and all of them
 //! compared with the second implementation.
 
 use crate::bits::turned;
 use crate::canary::{Entry, Lent};
 use crate::expect::{
-    comes_back, critical_places_give, encoding_gives, message_gives, reading_gives, repair_gives, roles_give,
-    syndrome_gives, writing_gives, Counted,
+    comes_back, encoding_gives, message_gives, reading_gives, repair_gives, roles_give, syndrome_gives, writing_gives,
+    Counted,
 };
 use crate::library;
 use crate::random::Random;
 use crate::reference::columns::Setting;
-use crate::reference::critical;
 use crate::reference::repair::{self, Decoder};
 use crate::reference::rows::{self, Row};
 use crate::reference::words;
@@ -25,13 +24,10 @@ pub enum Call {
     Repair,
     WriteRow,
     ReadRow,
-    CriticalPlaces,
 }
 
-pub const CALLS: [Call; 8] = {
-    use Call::*;
-    [Roles, Syndrome, Encode, Message, Repair, WriteRow, ReadRow, CriticalPlaces]
-};
+pub const CALLS: [Call; 7] =
+    [Call::Roles, Call::Syndrome, Call::Encode, Call::Message, Call::Repair, Call::WriteRow, Call::ReadRow];
 
 /// What the calls are told and lent beside a setting. Each takes its part.
 #[derive(Clone, Debug)]
@@ -40,7 +36,6 @@ pub struct Input {
     /// The word, or the word received. Where a call writes a word, it is lent as many bytes.
     pub word: Vec<u8>,
     pub repaired_length: usize,
-    pub places_length: usize,
     /// The message. Where a call writes one, it is lent as many bytes.
     pub message: Vec<u8>,
     pub syndrome_length: usize,
@@ -61,23 +56,15 @@ impl Input {
         let (length, k, t) = (code.length(), code.k(), code.params.t as usize);
         let carried = if k < rows::BITS { random.bits(k) } else { rows::message(row, k) };
         let word = turned(&code.encode(&carried), &random.places(length, t));
-        Input {
-            roles_length: code.places(),
-            word,
-            repaired_length: length,
-            places_length: length,
-            message: random.bits(k),
-            syndrome_length: t,
-            row,
-        }
+        let roles_length = code.places();
+        Input { roles_length, word, repaired_length: length, message: random.bits(k), syndrome_length: t, row }
     }
 
-    /// Gives all words this length, the list of critical places and the roles.
+    /// Gives all words this length, and the roles.
     pub fn resize(&mut self, length: usize) {
         self.roles_length = length;
         self.word.resize(length, 0);
         self.repaired_length = length;
-        self.places_length = length;
     }
 
     /// The number that refuses a call, by the second implementation.
@@ -91,7 +78,6 @@ impl Input {
             Call::Repair => repair::repair(setting, word, self.repaired_length).err(),
             Call::WriteRow => rows::write(setting, row.gear, row.lamp, word.len()).err(),
             Call::ReadRow => rows::read(setting, word, self.repaired_length).err(),
-            Call::CriticalPlaces => critical::judge(setting, word, self.places_length).err(),
         }
     }
 
@@ -107,9 +93,6 @@ impl Input {
             Call::Repair => repair_gives(setting, word, Lent::marked(self.repaired_length), &Err(number)),
             Call::WriteRow => writing_gives(setting, row.gear, row.lamp, word.len(), &Err(number)),
             Call::ReadRow => reading_gives(setting, word, Lent::marked(self.repaired_length), &Err(number)),
-            Call::CriticalPlaces => {
-                critical_places_give(setting, word, Lent::marked(self.places_length), &Err(number));
-            }
         }
     }
 
@@ -142,9 +125,6 @@ impl Input {
             Call::ReadRow => lending::<u8>(*repaired_length, |out| {
                 rows::read(setting, word, out).map(|(gear, lamp, count)| vec![gear, lamp, count])
             }),
-            Call::CriticalPlaces => {
-                lending::<u32>(self.places_length, |out| rows::critical_places(setting, word, out).map(<[u32]>::to_vec))
-            }
         }
     }
 }
@@ -166,10 +146,6 @@ pub fn compare_received(setting: &impl Setting, decoder: &Decoder, received: &[u
     reading_gives(setting, received, Lent::marked(received.len()), &rows::read_word(decoder, received));
     expected
 }
-
-/// The longest words whose critical places are compared beside the other calls: the word is read anew for each place.
-/// Those of longer ones have tests of their own.
-const LONGEST_FOR_PLACES: usize = 32;
 
 /// Compares every call with the second implementation, on random messages and words. Words are received with few, with
 /// t, with one more and with any number of places turned.
@@ -198,18 +174,10 @@ pub fn compare_all(random: &mut Random, setting: &impl Setting, decoder: &Decode
     let row = random.pick(&rows::rows());
     if k < rows::BITS {
         writing_gives(setting, row.gear, row.lamp, length, &Err(12));
-        critical_places_give(setting, &sent, Lent::marked(length), &Err(12));
         return;
     }
     let sent = code.encode(&rows::message(row, k));
     writing_gives(setting, row.gear, row.lamp, length, &Ok(sent.clone()));
     let received = turned(&sent, &random.places(length, few));
-    reading_gives(setting, &received, Lent::marked(length), &Ok((row, sent.clone(), few as u32)));
-    if length <= LONGEST_FOR_PLACES {
-        for weight in [few, t, (t + 1).min(length)] {
-            let received = turned(&sent, &random.places(length, weight));
-            let list = critical::places_of_word(decoder, &received);
-            critical_places_give(setting, &received, Lent::marked(length), &Ok(list));
-        }
-    }
+    reading_gives(setting, &received, Lent::marked(length), &Ok((row, sent, few as u32)));
 }

@@ -7,7 +7,6 @@ use crate::reference::columns::{block_count, Selection, Setting};
 use crate::reference::essence::is_sum;
 use crate::reference::field;
 use crate::reference::params::{Params, Shape, LENGTHS, ROWS};
-use crate::reference::rows;
 use crate::reference::words::Code;
 use crate::Elem;
 
@@ -209,12 +208,6 @@ pub fn selection(random: &mut Random, params: &Params, count: usize) -> Selectio
 pub fn any_selection(random: &mut Random, params: &Params) -> Selection {
     let count = 1 + random.below(block_count(params));
     selection(random, params, count)
-}
-
-/// So many blocks that there are five message columns, or all where that needs more: the rank is at most m·t.
-pub fn enough_blocks(params: &Params) -> usize {
-    let places = params.m * params.t + rows::BITS as u32;
-    block_count(params).min(places.div_ceil(params.t) as usize)
 }
 
 /// An accepted setting with message columns hidden, where there are any: one, some or all of them.

@@ -91,17 +91,6 @@ pub fn reading_gives(setting: &impl Setting, received: &[u8], mut repaired: Lent
     repaired.assert_holds(expected.as_ref().ok().map(|read| read.1.as_slice()));
 }
 
-/// The list is to stand at the front of the buffer. Entries past it are to keep what the buffer held.
-#[track_caller]
-pub fn critical_places_give(setting: &impl Setting, received: &[u8], mut places: Lent<u32>, expected: &Written<u32>) {
-    let (received, held) = (Lent::holding(received), places.slice().to_vec());
-    let answer = rows::critical_places(setting, received.slice(), places.slice_mut()).map(<[u32]>::to_vec);
-    assert_eq!(answer, *expected, "{setting:?}, received {:?}", received.slice());
-    received.assert_unchanged();
-    let after = expected.as_ref().ok().map(|list| [list, &held[list.len()..]].concat());
-    places.assert_holds(after.as_deref());
-}
-
 #[track_caller]
 pub fn ride_gives(params: &Params, lists: &Lists, mut counts: Lent<u32>, expected: &Ridden) {
     let lent = [&lists.gears, &lists.lamps, &lists.turned].map(|list| Lent::holding(list));

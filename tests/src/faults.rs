@@ -24,7 +24,6 @@ pub enum Fault {
     Marks(MarkFault),
     WordLength,
     RepairedLength,
-    PlacesLength,
     MessageLength,
     Narrow,
     NoBit,
@@ -33,9 +32,9 @@ pub enum Fault {
 }
 
 /// The faults of a call's own input: those that do not lie in the setting.
-pub const OF_INPUT: [Fault; 10] = {
+pub const OF_INPUT: [Fault; 9] = {
     use Fault::*;
-    [SyndromeLength, RolesLength, WordLength, RepairedLength, PlacesLength, MessageLength, Narrow, NoBit, TooFar, NoRow]
+    [SyndromeLength, RolesLength, WordLength, RepairedLength, MessageLength, Narrow, NoBit, TooFar, NoRow]
 };
 
 /// The faults of a selection's lists.
@@ -58,7 +57,7 @@ impl Fault {
             BeyondTheLast | NamedTwice => (2, 14),
             Shift => (3, 15),
             Marks(fault) => (4, fault.number()),
-            WordLength | RepairedLength | PlacesLength | MessageLength => (5, 2),
+            WordLength | RepairedLength | MessageLength => (5, 2),
             Narrow => (6, 12),
             NoBit => (7, 8),
             TooFar => (8, 10),
@@ -74,10 +73,8 @@ impl Fault {
             Fault::RolesLength => call == Roles,
             Fault::WordLength => call != Roles,
             Fault::RepairedLength | Fault::TooFar => [Repair, ReadRow].contains(&call),
-            Fault::PlacesLength => call == CriticalPlaces,
             Fault::MessageLength => [Encode, Message].contains(&call),
-            Fault::Narrow => [WriteRow, ReadRow, CriticalPlaces].contains(&call),
-            Fault::NoRow => [WriteRow, ReadRow].contains(&call),
+            Fault::Narrow | Fault::NoRow => [WriteRow, ReadRow].contains(&call),
             Fault::NoBit => ![Roles, WriteRow].contains(&call),
             _ => true,
         }
@@ -198,9 +195,6 @@ impl<S: Damaged> Intact<S> {
         }
         if has(Fault::RepairedLength) {
             input.repaired_length = wrong;
-        }
-        if has(Fault::PlacesLength) {
-            input.places_length = wrong;
         }
         let wrong = draw::other_length(random, setting.places());
         if has(Fault::RolesLength) {

@@ -162,7 +162,7 @@ pub mod repair {
     }
 }
 
-/// Writing and reading gear rows, and the bits that would change what is read.
+/// Writing and reading gear rows.
 pub mod rows {
     use super::*;
 
@@ -176,15 +176,6 @@ pub mod rows {
     pub fn read(setting: &impl Setting, received: &[u8], repaired: &mut [u8]) -> Result<(u32, u32, u32), u32> {
         let reading = call!(setting, read_row(received, repaired))?;
         Ok((reading.row.gear, reading.row.lamp as u32, reading.count))
-    }
-
-    #[track_caller]
-    pub fn critical_places<'p>(
-        setting: &impl Setting,
-        received: &[u8],
-        places: &'p mut [u32],
-    ) -> Result<&'p [u32], u32> {
-        call!(setting, critical_places(received, places))
     }
 }
 

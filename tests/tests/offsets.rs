@@ -46,10 +46,7 @@ fn any_input(random: &mut Random, decoder: &Decoder) -> Input {
             input.word.push(0);
             input.roles_length += 1;
         }
-        1 => {
-            input.repaired_length -= 1;
-            input.places_length -= 1;
-        }
+        1 => input.repaired_length -= 1,
         2 => input.message.push(0),
         3 => input.syndrome_length += 1,
         4 => input.word[random.below(length)] = random.pick(&BAD_BYTES),
@@ -60,7 +57,7 @@ fn any_input(random: &mut Random, decoder: &Decoder) -> Input {
 }
 
 /// Which numbers refused each call, 0 being none.
-type Seen = [BTreeSet<u32>; CALLS.len()];
+type Seen = [BTreeSet<u32>; 7];
 
 /// Makes every call under both offsets, and compares answers and buffers.
 #[track_caller]
@@ -76,7 +73,7 @@ fn alike(one: &impl Setting, other: &impl Setting, input: &Input, seen: &mut See
 /// each of its own numbers.
 #[track_caller]
 fn assert_all_seen(seen: &Seen) {
-    let own: [&[u32]; CALLS.len()] = [&[], &[8], &[8], &[8], &[8, 10], &[11, 12], &[8, 10, 11, 12], &[8, 12]];
+    let own: [&[u32]; 7] = [&[], &[8], &[8], &[8], &[8, 10], &[11, 12], &[8, 10, 11, 12]];
     for ((call, numbers), own) in CALLS.into_iter().zip(seen).zip(own) {
         let expected: BTreeSet<u32> = [&[0, 2], own].concat().into_iter().collect();
         assert_eq!(*numbers, expected, "{call:?}");

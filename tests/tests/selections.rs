@@ -259,7 +259,7 @@ fn rows_over_wide_selections() {
     let mut wide = 0;
     for shape @ (m, n, t) in draw::fewer_shapes() {
         let params = draw::params(&mut random, m, n, t);
-        let count = draw::enough_blocks(&params);
+        let count = enough_blocks(&params);
         for count in [count, (count + block_count(&params)) / 2] {
             let selection = draw::selection(&mut random, &params, count);
             let decoder = Decoder::new(selection.code());
@@ -288,6 +288,12 @@ fn rows_over_wide_selections() {
         }
     }
     assert!(wide >= 70, "only {wide} selections were wide enough");
+}
+
+/// So many blocks that there are five message columns, or all where that needs more: the rank is at most m·t.
+fn enough_blocks(params: &Params) -> usize {
+    let places = params.m * params.t + rows::BITS as u32;
+    block_count(params).min(places.div_ceil(params.t) as usize)
 }
 
 /// What the calls give does not depend on the offset.
@@ -320,7 +326,7 @@ fn buffers_with_other_contents() {
     let mut random = Random::new(911);
     for shape @ (m, n, t) in draw::fewer_shapes() {
         let params = draw::params(&mut random, m, n, t);
-        let selection = draw::selection(&mut random, &params, draw::enough_blocks(&params));
+        let selection = draw::selection(&mut random, &params, enough_blocks(&params));
         let decoder = Decoder::new(selection.code());
         let (code, length) = (&decoder.code, selection.places());
         let message = random.bits(code.k());
@@ -436,8 +442,7 @@ fn lists_of_other_lengths() {
     }
 }
 
-/// A word of another length than ℓ·t is 2, of n bytes as well; where a call has two words, each of them, and the list of
-/// critical places as well.
+/// A word of another length than ℓ·t is 2, of n bytes as well; where a call has two words, each of them.
 #[test]
 fn words_of_other_lengths() {
     let mut random = Random::new(916);
@@ -448,13 +453,16 @@ fn words_of_other_lengths() {
             let mut both = input.clone();
             both.resize(length);
             both.is_refused_by_all(&selection, 2);
-            let received = Input { repaired_length: right, places_length: right, ..both };
-            let lent = Input { repaired_length: length, places_length: length, ..input.clone() };
-            for call in [Call::Repair, Call::ReadRow, Call::CriticalPlaces] {
-                for input in [&received, &lent] {
-                    assert_eq!(input.number(call, &selection), Some(2));
-                    input.is_refused(call, &selection, 2);
-                }
+            let received = Input { repaired_length: right, ..both };
+            let repaired = Input { repaired_length: length, ..input.clone() };
+            for (call, input) in [
+                (Call::Repair, &received),
+                (Call::Repair, &repaired),
+                (Call::ReadRow, &received),
+                (Call::ReadRow, &repaired),
+            ] {
+                assert_eq!(input.number(call, &selection), Some(2));
+                input.is_refused(call, &selection, 2);
             }
         }
         for length in [0, t - 1, t + 1, right, n, 256 + t, 65536 + t].into_iter().filter(|&length| length != t) {
@@ -482,7 +490,7 @@ fn messages_of_other_lengths() {
     }
 }
 
-/// A byte other than 0 or 1 at any place of a word or a message is 8, but where a call on rows is refused by 12.
+/// A byte other than 0 or 1 at any place of a word or a message is 8, but where reading a row is refused by 12.
 #[test]
 fn bytes_that_are_no_bits() {
     let mut random = Random::new(918);
@@ -494,9 +502,7 @@ fn bytes_that_are_no_bits() {
                 damaged.is_refused(call, &selection, 8);
             }
             let number = if input.message.len() < rows::BITS { 12 } else { 8 };
-            for call in [Call::ReadRow, Call::CriticalPlaces] {
-                damaged.is_refused(call, &selection, number);
-            }
+            damaged.is_refused(Call::ReadRow, &selection, number);
         }
         for place in draw::places_to_try(&mut random, selection.params.shape(), input.message.len()) {
             let mut damaged = input.clone();
@@ -514,7 +520,7 @@ fn faults_together() {
     let mut refused = 0;
     for shape @ (m, n, t) in draw::fewer_shapes() {
         let params = draw::params(&mut random, m, n, t);
-        let least = draw::enough_blocks(&params);
+        let least = enough_blocks(&params);
         let count = least + random.below(block_count(&params) - least + 1);
         // Two blocks have no message columns, since code words differ in more than 2t places.
         let [wide, narrow] = [count, 2].map(|count| {

@@ -5,8 +5,8 @@ use zovunelith_tests::bits::{ones_at, turned};
 use zovunelith_tests::canary::Lent;
 use zovunelith_tests::draw;
 use zovunelith_tests::expect::{
-    comes_back, critical_places_give, dash_gives, encoding_gives, message_gives, reading_gives, repair_gives,
-    ride_gives, roles_give, syndrome_gives, writing_gives,
+    comes_back, dash_gives, encoding_gives, message_gives, reading_gives, repair_gives, ride_gives, roles_give,
+    syndrome_gives, writing_gives,
 };
 use zovunelith_tests::library;
 use zovunelith_tests::random::Random;
@@ -17,7 +17,7 @@ use zovunelith_tests::reference::ride::{self, Lists, Ridden};
 use zovunelith_tests::reference::rows::{self, Row};
 use zovunelith_tests::reference::senders::{self, Call, Dash, Given, NONE, TOO_FAR};
 use zovunelith_tests::reference::words::Code;
-use zovunelith_tests::reference::{block, critical, essence, field, formula, params, sheet};
+use zovunelith_tests::reference::{block, essence, field, formula, params, sheet};
 use zovunelith_tests::Elem;
 
 /// The greatest element of the widest field.
@@ -356,28 +356,6 @@ fn rows_with_many_turned_places() {
         panic!("{expected:?} has other counts");
     };
     ride_gives(&params, &lists, Lent::marked(ride::COUNTS), &expected);
-}
-
-/// The longest lists, up to the last place: with t turned bits every other one would change what is read. And words with
-/// one turned bit more, of which each can be turned back.
-#[test]
-fn the_longest_lists() {
-    let mut random = Random::new(1315);
-    for t in [1, 2] {
-        let decoder = Decoder::new(Code::new(&draw::params(&mut random, 16, 512, t)));
-        let (code, t) = (&decoder.code, t as usize);
-        let sent = code.encode(&rows::message(Row { gear: 7, lamp: 2 }, code.k()));
-        let gives = |places: &[usize], list: &[u32]| {
-            critical_places_give(&code.params, &turned(&sent, places), Lent::marked(512), &Ok(list.to_vec()));
-        };
-        let places = &[0, 256][..t];
-        let others: Vec<u32> = (0..512).filter(|&place| !places.contains(&(place as usize))).collect();
-        gives(places, &others);
-        let places = &[511, 255, 256][..t + 1];
-        let list = critical::places_of_word(&decoder, &turned(&sent, places));
-        assert!(places.iter().all(|&place| list.contains(&(place as u32))), "{list:?}");
-        gives(places, &list);
-    }
 }
 
 /// Eight senders of the longest words, with the greatest counts: all in one round, and one after the other, the turn

@@ -2,8 +2,7 @@
 ghost use Rattle.std.specs.Prelude.{◌≡◌};
 ghost use Rattle.shortened.specs.Setting.{short_code};
 ghost use Rattle.rows.specs.Answers.{write_answer, write_after, read_answer, read_after};
-ghost use Rattle.sensitivity.specs.Answers.{critical_answer, critical_after};
-ghost use Rattle.wire.specs.Wire.{code, outcome_code, counted_code, reading_code};
+ghost use Rattle.wire.specs.Wire.{code, outcome_code, reading_code};
 
 use field::Elem;
 use params::Parameters;
@@ -44,25 +43,4 @@ pub extern "C" fn zov_read_row(
         ≡ read_after (code m n t omega) h.now (short_code hidden.now) received.now repaired.old }
 {
     wire::reading_code(rows::read_row(Parameters { m, n, t, omega }, h, hidden, received, repaired))
-}
-
-#[unsafe(no_mangle)]
-pub extern "C" fn zov_critical_places(
-    m: u32,
-    n: u32,
-    t: u32,
-    omega: u32,
-    h: &[Elem],
-    hidden: &[u8],
-    received: &[u8],
-    places: &mut [u32],
-) -> u32
-    ensures value { result
-        ≡ counted_code
-        (critical_answer (code m n t omega) h.now (short_code hidden.now) received.now places.old) }
-    ensures places_after { places.new
-        ≡ critical_after (code m n t omega) h.now (short_code hidden.now) received.now places.old }
-{
-    let c = Parameters { m, n, t, omega };
-    wire::counted_code(sensitivity::critical_places(c, h, hidden, received, places))
 }

@@ -4,7 +4,6 @@ ghost use Rattle.shortened.specs.Setting.{short_selection};
 ghost use Rattle.words.specs.Answers.{roles_answer, roles_after, syndrome_answer, syndrome_after, encode_answer, encode_after, message_answer, message_after};
 ghost use Rattle.repair.specs.Answers.{repair_answer, repair_after};
 ghost use Rattle.rows.specs.Answers.{write_answer, write_after, read_answer, read_after};
-ghost use Rattle.sensitivity.specs.Answers.{critical_answer, critical_after};
 ghost use Rattle.wire.specs.Wire.{code, outcome_code, counted_code, recovery_code, reading_code};
 
 use field::Elem;
@@ -183,31 +182,4 @@ pub extern "C" fn zov_selection_read_row(
 {
     let c = Parameters { m, n, t, omega };
     wire::reading_code(rows::selection::read_row(c, h, blocks, shifts, hidden, received, repaired))
-}
-
-#[unsafe(no_mangle)]
-pub extern "C" fn zov_selection_critical_places(
-    m: u32,
-    n: u32,
-    t: u32,
-    omega: u32,
-    h: &[Elem],
-    blocks: &[u32],
-    shifts: &[u32],
-    hidden: &[u8],
-    received: &[u8],
-    places: &mut [u32],
-) -> u32
-    ensures value { result
-        ≡ counted_code
-        (critical_answer (code m n t omega) h.now (short_selection blocks.now shifts.now hidden.now)
-        received.now places.old) }
-    ensures places_after { places.new
-        ≡ critical_after (code m n t omega) h.now (short_selection blocks.now shifts.now hidden.now)
-        received.now places.old }
-{
-    let c = Parameters { m, n, t, omega };
-    wire::counted_code(sensitivity::selection::critical_places(
-        c, h, blocks, shifts, hidden, received, places,
-    ))
 }

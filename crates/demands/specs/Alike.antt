@@ -5,7 +5,6 @@ use Rattle.shortened.specs.Setting.{Setting}
 use Rattle.words.specs.Answers.{roles_answer, roles_after, syndrome_answer, syndrome_after, encode_answer, encode_after, message_answer, message_after}
 use Rattle.repair.specs.Answers.{repair_answer, repair_after}
 use Rattle.rows.specs.Answers.{write_answer, write_after, read_answer, read_after}
-use Rattle.sensitivity.specs.Answers.{critical_answer, critical_after}
 use Rattle.simulation.specs.Steps.{Steps}
 use Rattle.simulation.specs.Answers.{ride_answer, ride_after}
 use Rattle.scheduler.specs.declared.Dash.{Dash}
@@ -28,8 +27,6 @@ pub record Alike (c₁ : Parameters) (h₁ : List ℕ) (s₁ : Setting) (c₂ : 
       × (write_after c₁ h₁ s₁ gear lamp word ≡ write_after c₂ h₂ s₂ gear lamp word)
   pub read_row : (received repaired : List ℕ) → (read_answer c₁ h₁ s₁ received repaired ≡ read_answer c₂ h₂ s₂ received repaired)
       × (read_after c₁ h₁ s₁ received repaired ≡ read_after c₂ h₂ s₂ received repaired)
-  pub critical_places_lem : (received list : List ℕ) → (critical_answer c₁ h₁ s₁ received list ≡ critical_answer c₂ h₂ s₂ received list)
-      × (critical_after c₁ h₁ s₁ received list ≡ critical_after c₂ h₂ s₂ received list)
   pub ride : (σ : Steps) (counts : List ℕ) → (ride_answer c₁ h₁ s₁ σ counts ≡ ride_answer c₂ h₂ s₂ σ counts)
       × (ride_after c₁ h₁ s₁ σ counts ≡ ride_after c₂ h₂ s₂ σ counts)
   pub start : (d : Dash) (waiting next : List ℕ) → (start_answer c₁ h₁ s₁ d waiting next ≡ start_answer c₂ h₂ s₂ d waiting next)

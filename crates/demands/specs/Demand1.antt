@@ -5,7 +5,7 @@
 -- it gives its value exactly if all its rules hold, is refused otherwise, and by the lowest number that applies (`..-refuses`). The rules of calls on
 -- words, on sheets and on formulas come in parts, since there are exceptions from the lowest number: the 2, 14 and 15 of a selection come after 7,
 -- and 20 after these and before all others; the 2 of a length that follows from the marks comes after 20; 12 comes after these and before all others
--- (`write_row`, `read_row`, `critical_places_lem`, `ride`); the 2 of a message's length comes after that of the word's and before 8 (`encode`, `message`); the steps of a
+-- (`write_row`, `read_row`, `ride`); the 2 of a message's length comes after that of the word's and before 8 (`encode`, `message`); the steps of a
 -- ride come one after the other, each with 8 and then 11 (`ride`); 18 and 19 come after 20 and before 8 (`senders`); 16 comes before 9 (`formula`);
 -- and 13 comes first, and the 2 of a short buffer last, for a sheet (`listing`). No length of `check`, `same` and `roles` follows from the marks:
 -- theirs is the lowest number of all, that of `roles` for the whole code (`roles_lowest`). That of `syndrome` and `repair` is not, since the length
@@ -54,7 +54,6 @@ use Rattle.codes.specs.Lowest.{lowest_none, lowest_is}
 use Rattle.codes.specs.Same.{same_code}
 use Rattle.parity.specs.Columns.{dimension}
 use Rattle.columns.specs.Choice.{Choice, Choice.whole_code, Choice.selection, all_places, all_columns, selection_rules, choice_rules}
-use Rattle.shortened.specs.Begun.{both_long}
 use Rattle.shortened.specs.Marks.{hides_messages, sent_dimension, mark_rules}
 use Rattle.shortened.specs.Setting.{Setting, short_code, places, columns_of, is_marked, setting_rules}
 use Rattle.shortened.specs.SettingLaws.{length_columns}
@@ -67,7 +66,6 @@ use Rattle.repair.specs.Answers.{word_rules, turned_count, repair_fault, repair_
 use Rattle.rows.specs.declared.Reading.TheVariants.{Refused as NotRead}
 use Rattle.rows.specs.Answers.{write_rules, carried, read_rules, row_read, write_fault, write_answer, write_after, read_fault, read_answer, read_after}
 use Rattle.rows.specs.Laws.{read_apart, same_reading}
-use Rattle.sensitivity.specs.Answers.{critical_rules, critical_count, critical_fault, critical_answer, critical_after}
 use Rattle.simulation.specs.Steps.{Steps, step_count, step_rules, rules_at, steps_rules}
 use Rattle.simulation.specs.Ride.{ride_counts}
 use Rattle.simulation.specs.Answers.{ride_lengths, marks_long, start_rules, ride_rules, ride_fault, ride_answer, start_fault, ride_after}
@@ -472,22 +470,6 @@ module _ (c : Parameters) (h : List ℕ) (s : Setting) (received repaired : List
   read_row_refuses =
       setting_refuses c h NotRead _ (read_apart _ _) same_reading s true
       (eqb (length received) (places s) && eqb (length repaired) (places s)) (read_parts c h (columns_of c s) received) refl
-
--- ---- critical places: "A word that the reader refuses for anything but 10 or 11 is refused here by the same number" (`refused_alike` of `Critical`)
-
-module _ (c : Parameters) (h : List ℕ) (s : Setting) (received list : List ℕ) where
-  abbrev pub critical_parts : List (List Rule)
-  critical_parts = ((12 unless leb row_bits (dimension c h (columns_of c s))) ∷ []) ∷ ((8 unless all_bits received) ∷ []) ∷ []
-
-  pub critical_places_unchanged : {k : ℕ} → critical_answer c h s received list ≡ NotCounted k → critical_after c h s received list ≡ list
-  unfolding critical_answer critical_after critical_count
-  critical_places_unchanged e = refused_leaves NotCounted _ (counted_apart _) (critical_fault c h s received list) list _ e
-
-  pub critical_places_refuses : RefusesInOrder (critical_answer c h s received list) NotCounted (critical_count c h (columns_of c s) received)
-      (setting_parts c h s true (both_long received list (places s)) ++ critical_parts)
-  unfolding critical_answer critical_fault critical_count critical_rules
-  critical_places_refuses =
-      setting_refuses c h NotCounted _ (counted_apart _) same_counted s true (both_long received list (places s)) critical_parts refl
 
 -- ---- rides: "12 is looked for before the ride starts", then one step after the other, and of a step 8 "goes first where one step has both"
 

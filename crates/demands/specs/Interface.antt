@@ -2,14 +2,14 @@
 -- include/zovunelith.h, under its name.
 use Rattle.std.specs.Prelude.{◌≡◌, ◌≢◌, Bool, false, ◌&&◌, ℕ, zero, suc, ◌-◌, ◌%◌, ◌^◌, ◌<◌, ◌≤◌}
 use Rattle.std.proofs.Math.Path.{refl, subst}
-use Rattle.std.proofs.Common.{sym, ap, ◌∙◌, subst₂, mod-eq_of_lt, arith, pow_mono}
+use Rattle.std.proofs.Common.{sym, ap, ◌∙◌, mod-eq_of_lt, arith, pow_mono}
 use Rattle.std.proofs.Math.Bool.{true}
 use mathlib.Core.List.{List, [], ◌∷◌, ◌++◌, append-nil}
 use Rattle.std.proofs.Math.Dec.{eqb}
 use Rattle.std.proofs.Math.ListN.{length}
 use borrow.Author.Tests.{eqb-true}
 use Rattle.algebra.specs.Flags.{both_true}
-use Rattle.algebra.specs.PlaceLaws.{length-chosen, count-le}
+use Rattle.algebra.specs.PlaceLaws.{count-le}
 use Rattle.algebra.specs.Xor.{◌⊕◌}
 use Rattle.algebra.specs.XorLaws.{⊕-lt}
 use Rattle.refusals.specs.Answered.{value_none, refused_due, done_apart, same_outcome, counted_apart, same_counted}
@@ -44,7 +44,6 @@ use Rattle.codes.specs.Same.{same_code}
 use Rattle.parity.specs.Columns.{is_message_column, dimension}
 use Rattle.columns.specs.Choice.{Choice, Choice.whole_code, Choice.selection, all_places, all_columns, selection_rules, choice_rules}
 use Rattle.columns.specs.ChoiceLaws.{choice_accepted, all_short}
-use Rattle.shortened.specs.Begun.{both_long}
 use Rattle.shortened.specs.Fits.{Fits}
 use Rattle.shortened.specs.Marks.{is_sent, sent_dimension, mark_rules}
 use Rattle.shortened.specs.Setting.{Setting, short_code, short_selection, places, columns_of, is_marked, setting_rules}
@@ -59,8 +58,6 @@ use Rattle.gears.specs.declared.Row.{Row}
 use Rattle.rows.specs.declared.Reading.TheVariants.{Read, Refused as NotRead}
 use Rattle.rows.specs.Answers.{write_rules, read_rules, row_read, write_fault, write_answer, read_fault, read_answer}
 use Rattle.rows.specs.Laws.{read_apart, same_reading}
-use Rattle.sensitivity.specs.Critical.{is_critical, critical_places}
-use Rattle.sensitivity.specs.Answers.{critical_rules, critical_count, critical_fault, critical_answer}
 use Rattle.simulation.specs.Steps.{Steps, step_count, step_rules, rules_at, steps_rules}
 use Rattle.simulation.specs.Answers.{ride_lengths, marks_long, start_rules, ride_rules, ride_fault, ride_answer}
 use Rattle.sheets.specs.Sheet.{sheet_parameters, sheet_h}
@@ -260,21 +257,6 @@ module _ (c : Parameters) (h : List ℕ) (s : Setting) where
       (subst (λ (k : ℕ). turned_count c h (columns_of c s) received ≤ k) (length_columns c s)
       (count-le (length (columns_of c s)) (differs received (repaired_of c h (columns_of c s) received)))))
 
-  critical_places_told : (received list : List ℕ)
-      → ToldApart counted_code (critical_answer c h s received list) NotCounted (critical_count c h (columns_of c s) received)
-  unfolding critical_answer critical_fault critical_rules critical_count critical_places
-  critical_places_told received list =
-      let words = both_long received list (places s) in
-      let own = critical_rules c h (columns_of c s) received in
-      let rules = setting_rules c h s true words ++ own in
-      let cols = columns_of c s in
-      let long = length-chosen (length cols) (is_critical c h cols received) (λ j. j) in
-      told_apart counted_code NotCounted (critical_count c h cols received) (counted_apart _) same_counted (λ k. refl)
-      (fault rules) (fault_up_to greatest_number rules (in_table c h s true words own refl))
-      (λ none.
-      count_value true words own none
-      (subst₂ (λ (x y : ℕ). x ≤ y) (sym long) (length_columns c s) (count-le (length cols) (is_critical c h cols received))))
-
   -- ---- several senders
 
   senders_start_told : (d : Dash) (waiting next : List ℕ) → ToldApart outcome_code (start_answer c h s d waiting next) Refused Done
@@ -341,11 +323,6 @@ module _ (c : Parameters) (h hidden : List ℕ) where
   pub zov_read_row : (received repaired : List ℕ) → ReadToldApart c h (short_code hidden) received repaired
   zov_read_row = read_row_told c h (short_code hidden)
 
-  pub zov_critical_places : (received list : List ℕ)
-      → ToldApart counted_code (critical_answer c h (short_code hidden) received list) NotCounted
-      (critical_count c h (columns_of c (short_code hidden)) received)
-  zov_critical_places = critical_places_told c h (short_code hidden)
-
   pub zov_ride : (σ : Steps) (counts : List ℕ) → ToldApart outcome_code (ride_answer c h (short_code hidden) σ counts) Refused Done
   zov_ride = ride_told c h (short_code hidden)
 
@@ -387,10 +364,6 @@ module _ (c : Parameters) (h blocks shifts hidden : List ℕ) where
 
   pub zov_selection_read_row : (received repaired : List ℕ) → ReadToldApart c h chosen received repaired
   zov_selection_read_row = read_row_told c h chosen
-
-  pub zov_selection_critical_places : (received list : List ℕ)
-      → ToldApart counted_code (critical_answer c h chosen received list) NotCounted (critical_count c h (columns_of c chosen) received)
-  zov_selection_critical_places = critical_places_told c h chosen
 
 -- ---- answers by sender: what repair answers is never taken for "no word left"
 

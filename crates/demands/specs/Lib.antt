@@ -6,7 +6,6 @@ pub mod Zero
 pub mod Demand2
 pub mod Demand3
 pub mod Rows
-pub mod Critical
 pub mod Ride
 pub mod Verdicts
 pub mod Field

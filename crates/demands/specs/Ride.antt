@@ -53,7 +53,7 @@ use Rattle.simulation.specs.LentLaws.{lent_exactly, lent_passes}
 use Rattle.simulation.specs.Answers.{ride_lengths, marks_long, start_rules, ride_rules}
 use Rattle.simulation.specs.Answers.{ride_fault, ride_answer, start_fault, ride_after}
 use Rattle.demands.specs.Lowest.{lacks, fault-lacks}
-use Rattle.demands.specs.Rows.{ten_or_eleven, fault_is as read-fault}
+use Rattle.demands.specs.Rows.{fault_is as read-fault}
 use Rattle.demands.specs.Verdicts.{right_exactly}
 
 -- ---- the steps
@@ -104,6 +104,13 @@ module _ (n : ℕ) (σ : Steps) where
       decided true true e q = inl (e, q)
       decided true false e q = inr (inr (e, q))
       decided false r e q = inr (inl e)
+
+-- of two rules one fails
+ten_or_eleven : (a b : Bool) {k : ℕ} → fault ((10 unless a) ∷ (11 unless b) ∷ []) ≡ k → k ≢ 0 → (k ≡ 10) ⊎ (k ≡ 11)
+unfolding fault
+ten_or_eleven true true e ne = absurd (ne (sym e))
+ten_or_eleven true false e ne = inr (sym e)
+ten_or_eleven false b e ne = inl (sym e)
 
 -- ---- when a ride starts
 

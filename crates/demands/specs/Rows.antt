@@ -1,8 +1,8 @@
 -- Gear rows: which are written; what is written is read as it was written, with up to t bits turned; 11 is for a word that carries no row, and what
 -- the high neutral brings.
 use Rattle.std.proofs.Math.Path.{◌≡◌, refl, sym, ap}
-use Rattle.std.proofs.Common.{ap₂, ◌∙◌, inl, inr, arith, eq-eqb, le-leb}
-use Rattle.std.specs.Prelude.{◌≢◌, ◌↔◌, ◌⊎◌, Bool, true, false, ℕ, ◌≤◌, length}
+use Rattle.std.proofs.Common.{ap₂, ◌∙◌, arith, eq-eqb, le-leb}
+use Rattle.std.specs.Prelude.{◌≢◌, ◌↔◌, Bool, true, false, ℕ, ◌≤◌, length}
 use Rattle.std.proofs.Math.Bool.{false≢true}
 use mathlib.Core.List.{List, [], ◌∷◌}
 use Rattle.algebra.specs.Flags.{both_true, both_hold, refuted}
@@ -36,13 +36,6 @@ use Rattle.demands.specs.Demand3.{repaired_ends, refused_ends}
 
 same_count : (a b : ℕ) → Repaired a ≡ Repaired b → a ≡ b
 same_count a b e = cc
-
--- of 10 and 11, where these are the rules, one is due
-pub ten_or_eleven : (a b : Bool) {k : ℕ} → fault ((10 unless a) ∷ (11 unless b) ∷ []) ≡ k → k ≢ 0 → (k ≡ 10) ⊎ (k ≡ 11)
-unfolding fault
-ten_or_eleven true true e ne = absurd (ne (sym e))
-ten_or_eleven true false e ne = inr (sym e)
-ten_or_eleven false b e ne = inl (sym e)
 
 -- an accepted code, or any selection of it, whatever message columns are hidden, with room for a row
 module _ {c : Parameters} {h : List ℕ} (A : Accepted c h) (s : Setting) (F : Fits c h s) (wide : row_bits ≤ dimension c h (columns_of c s)) where

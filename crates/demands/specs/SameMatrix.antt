@@ -9,12 +9,12 @@ use Rattle.std.proofs.Math.Bool.{Bool, true, cond, not}
 use mathlib.Core.List.{List, [], ◌∷◌, ◌++◌}
 use Prim.Native.Nat.{ℕ}
 use Rattle.std.proofs.Math.Dec.{eqb, leb}
-use Rattle.std.proofs.Math.ListN.{length, drop, set, replicate}
+use Rattle.std.proofs.Math.ListN.{length, set, replicate}
 use borrow.Author.Tests.{eqb-true}
 use Rattle.algebra.specs.Flags.{both_true}
 use Rattle.algebra.specs.Lists.{entry_of}
 use Rattle.algebra.specs.Parts.{part, with_part, joined}
-use Rattle.algebra.specs.Places.{count, chosen}
+use Rattle.algebra.specs.Places.{count}
 use Rattle.algebra.specs.Tabulate.{tabulate}
 use Rattle.refusals.specs.declared.Counted.TheVariants.{Count, Refused as NotCounted}
 use Rattle.refusals.specs.declared.Outcome.TheVariants.{Done, Refused}
@@ -29,7 +29,6 @@ use Rattle.parity.specs.Word.{syndrome_of, is_code_word}
 use Rattle.columns.specs.Choice.{Choice, all_places, all_columns, choice_rules}
 use Rattle.columns.specs.ChoiceLaws.{choice_numbered, choice_accepted, length_all}
 use Rattle.columns.specs.Fits.{ChoiceFits}
-use Rattle.shortened.specs.Begun.{both_long}
 use Rattle.shortened.specs.Marks.{sent_dimension, mark_rules}
 use Rattle.shortened.specs.Setting.{Setting, shortened, places, columns_of, setting_rules}
 use Rattle.shortened.specs.SettingLaws.{setting_numbered, length_columns}
@@ -49,10 +48,6 @@ use Rattle.rows.specs.declared.Reading.{Reading}
 use Rattle.rows.specs.declared.Reading.TheVariants.{Read, Refused as NotRead}
 use Rattle.rows.specs.Answers.{write_rules, row_word, carried, read_rules, row_read, reading_answer}
 use Rattle.rows.specs.Answers.{write_fault, write_answer, write_after, read_fault, read_answer, read_after}
-use Rattle.sensitivity.specs.declared.Call.{Call}
-use Rattle.sensitivity.specs.Calls.{call_of, same_call}
-use Rattle.sensitivity.specs.Critical.{turned_at, said, is_critical, critical_places}
-use Rattle.sensitivity.specs.Answers.{critical_rules, critical_count, critical_list, critical_fault, critical_answer, critical_after}
 use Rattle.simulation.specs.declared.Verdict.{Verdict}
 use Rattle.simulation.specs.Steps.{Steps, step_count, gear_at, lamp_at, marks_at, steps_rules, is_made}
 use Rattle.simulation.specs.Ride.{verdict_of, is_right, is_held, is_wrong, is_marked, step_word, step_verdict, verdict_at}
@@ -111,16 +106,6 @@ module _ {c₁ c₂ : Parameters} {h₁ cols₁ h₂ cols₂ : List ℕ} (M : Sa
   unfolding reading_answer
   reading received =
       ap₂ (λ (rules : List Rule) (value : Reading). unless_refused (fault rules) NotRead value) (read_rules_lem received) (row_read received)
-
-  critical_rules_lem : (received : List ℕ) → critical_rules c₁ h₁ cols₁ received ≡ critical_rules c₂ h₂ cols₂ received
-  unfolding critical_rules
-  critical_rules_lem received = ap (λ (k : ℕ). (12 unless leb row_bits k) ∷ (8 unless all_bits received) ∷ []) (same_dimension M)
-
-  critical_places_lem : (received : List ℕ) → critical_places c₁ h₁ cols₁ received ≡ critical_places c₂ h₂ cols₂ received
-  unfolding critical_places is_critical said
-  critical_places_lem received =
-      ap₂ (λ (n : ℕ) (call : List ℕ → Call). chosen n (λ j. not (same_call (call (turned_at j received)) (call received))) (λ j. j)) M.columns
-      (fun_ext (λ word. ap call_of (reading word)))
 
   start_rules_lem : start_rules c₁ h₁ cols₁ ≡ start_rules c₂ h₂ cols₂
   unfolding start_rules
@@ -324,8 +309,7 @@ module _ {c₁ c₂ : Parameters} {h₁ h₂ : List ℕ} {k₁ k₂ : Choice} (P
 
   pub answered_alike : Alike c₁ h₁ (shortened k₁ hidden) c₂ h₂ (shortened k₂ hidden)
   unfolding roles_answer roles_after syndrome_answer syndrome_after encode_fault encode_answer encode_after message_fault message_answer message_after
-      repair_fault repair_answer repair_after write_fault write_answer write_after read_fault read_answer read_after
-      critical_fault critical_answer critical_after critical_count critical_list ride_fault ride_answer start_fault ride_after
+      repair_fault repair_answer repair_after write_fault write_answer write_after read_fault read_answer read_after ride_fault ride_answer start_fault ride_after
       beganFault start_answer start_waiting start_next offer_fault offer_answer offer_waiting offer_words
       round_fault round_answer waiting_after next_after answers_after handed_after
   answered_alike =
@@ -370,16 +354,6 @@ module _ {c₁ c₂ : Parameters} {h₁ h₂ : List ℕ} {k₁ k₂ : Choice} (P
             let same_own : FromMatrix own = λ M. read_rules_lem M received in (
               call true words own NotRead (λ c h cols. row_read c h cols received) same_own (λ M. row_read M received),
               call true words own (λ k. repaired) (λ c h cols. repaired_of c h cols received) same_own (λ M. same_repaired M received),
-            );
-        critical_places_lem = λ received list.
-            let words : Bool = both_long received list n in
-            let own : Of (List Rule) = λ c h cols. critical_rules c h cols received in
-            let same_own : FromMatrix own = λ M. critical_rules_lem M received in
-            let listed : List ℕ → List ℕ = λ places. places ++ drop (length places) list in (
-              call true words own NotCounted (λ c h cols. Count (length (critical_places c h cols received))) same_own
-                  (λ M. ap (λ (l : List ℕ). Count (length l)) (critical_places_lem M received)),
-              call true words own (λ k. list) (λ c h cols. listed (critical_places c h cols received)) same_own
-                  (λ M. ap listed (critical_places_lem M received)),
             );
         ride = λ σ counts. (
           call (ride_lengths σ counts) (marks_long σ n) (λ c h cols. ride_rules c h cols σ) Refused (λ c h cols. Done) (λ M. ride_rules_lem M σ) (λ M. refl),

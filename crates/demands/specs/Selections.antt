@@ -21,7 +21,6 @@ use Rattle.params.specs.Code.{Accepted, code_rules}
 use Rattle.parity.specs.Columns.{dimension}
 use Rattle.columns.specs.Choice.{Choice.selection, all_columns, all_below, has_lengths, selection_rules, choice_rules}
 use Rattle.columns.specs.ChoiceLaws.{below_is, beyond_is}
-use Rattle.shortened.specs.Begun.{both_long}
 use Rattle.shortened.specs.Marks.{mark_rules}
 use Rattle.shortened.specs.Setting.{Setting, short_selection, places, columns_of, is_marked, setting_rules}
 use Rattle.messages.specs.MessageRules.{message_rules}
@@ -32,7 +31,6 @@ use Rattle.repair.specs.Answers.{word_rules, repair_fault, repair_answer}
 use Rattle.rows.specs.declared.Reading.TheVariants.{Refused as NotRead}
 use Rattle.rows.specs.Answers.{write_rules, read_rules, row_read, write_fault, write_answer, read_fault, read_answer}
 use Rattle.rows.specs.Laws.{read_apart, same_reading}
-use Rattle.sensitivity.specs.Answers.{critical_rules, critical_count, critical_fault, critical_answer}
 use Rattle.demands.specs.Lowest.{lacks, fault-lacks}
 use Rattle.demands.specs.Outcomes.{repaired_apart, same_recovery}
 
@@ -194,11 +192,3 @@ module _ {c : Parameters} {h : List ℕ} (A : Accepted c h) (blocks shifts hidde
       let words = eqb (length received) (places s) && eqb (length repaired) (places s) in
       let own = read_rules c h (columns_of c s) received in
       tells c blocks shifts NotRead _ (read_apart _ _) same_reading (marks words ++ own) refl refl (past_lengths refl words own)
-
-  pub critical_places_tells : (received list : List ℕ)
-      → Tells c blocks shifts (critical_answer c h (short_selection blocks shifts hidden) received list) NotCounted
-  unfolding critical_answer critical_fault critical_count critical_rules mark_rules
-  critical_places_tells received list =
-      let words = both_long received list (places s) in
-      let own = critical_rules c h (columns_of c s) received in
-      tells c blocks shifts NotCounted _ (counted_apart _) same_counted (marks words ++ own) refl refl (past_lengths refl words own)

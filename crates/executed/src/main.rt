@@ -1,6 +1,5 @@
-// The cases that are executed: the toy example, which is 01's card T, every pair of a gear and a lamp on it, the limits, short words, critical places,
-// formulas, and essences. What this prints is compared with the stored output.
-mod critical;
+// The cases that are executed: the toy example, which is 01's card T, every pair of a gear and a lamp on it, the limits, short words, formulas, and
+// essences. What this prints is compared with the stored output.
 mod essences;
 mod formulas;
 mod pairs;
@@ -250,7 +249,6 @@ fn main() {
     show_root_count(4);
     show_empty_message();
     short::show_short();
-    critical::show_critical();
     formulas::show_formulas();
     essences::show_essences();
 }

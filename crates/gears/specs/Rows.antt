@@ -68,7 +68,3 @@ lamp_number Amber = 2
 -- the row of a gear and a lamp's number
 unfoldable pub row_of : ℕ → ℕ → Row
 row_of gear lamp = record { gear = gear; lamp = lamp_of lamp }
-
--- a row is the one of this gear and this lamp's number
-abbrev pub is_of : ℕ → ℕ → Row → Bool
-is_of gear lamp row = eqb row.gear gear && eqb (lamp_number row.lamp) lamp

@@ -1,7 +1,7 @@
 // Gear rows and their messages: a gear and a lamp, which rows are allowed, the message of a row, and what a message says.
 ghost use Rattle.std.specs.Prelude.{◌≡◌, ◌≤◌, ◌<◌, length};
 ghost use Rattle.algebra.specs.Lists.{entry_of};
-ghost use Rattle.gears.specs.Rows.{is_row, row_bits, row_bit, row_message, gear_in, lamp_in, further_zero, is_row_message, lamp_of, lamp_number, row_of, is_of};
+ghost use Rattle.gears.specs.Rows.{is_row, row_bits, row_bit, row_message, gear_in, lamp_in, further_zero, is_row_message, lamp_of, lamp_number, row_of};
 
 // 01 numbers the lamps 0, 1 and 2.
 #[derive(Drop)]
@@ -133,12 +133,4 @@ pub fn row_in(message: &[u8]) -> Row
         gear: gear_in(message),
         lamp: lamp_of(lamp_in(message)),
     }
-}
-
-// Whether the row is the one of this gear and this lamp's number.
-pub fn is_of(row: Row, gear: u32, lamp: u32) -> bool
-    ensures { result ≡ is_of gear lamp row }
-{
-    let row_lamp = row.lamp;
-    (row.gear == gear) & (lamp_number(row_lamp) == lamp)
 }

@@ -7,12 +7,10 @@ use native.Mathlib.Numerals.{add-one}
 use native.Mathlib.Omega.{arith}
 use lib.Dec.{eqb}
 use lib.ListN.{length, set}
-use Rattle.algebra.specs.All.{all}
-use Rattle.algebra.specs.AllLaws.{all_cong}
 use Rattle.algebra.specs.Lists.{entry_of}
 use Rattle.algebra.specs.Locator.Nodal.{Points, points_cong}
 use Rattle.algebra.specs.Locator.Pass.{Invariant, invariant_cong}
-use Rattle.algebra.specs.Locator.Split.{Halves, value}
+use Rattle.algebra.specs.Locator.Split.{value}
 use Rattle.algebra.specs.PlaceLaws.{count_tests}
 use Rattle.algebra.specs.Places.{count}
 use Rattle.algebra.specs.Tabulate.{tabulate}
@@ -30,9 +28,8 @@ use Rattle.signature.specs.Inverses.{Inverted, added}
 use Rattle.signature.proofs.Stored.{roots_are, support_is}
 use Rattle.parity.specs.Parity.{Summed, signature_sum, signature_syndrome, signature_in}
 use Rattle.parity.specs.Selected.{OnColumns}
-use Rattle.parity.specs.Word.{syndrome_at, syndrome_of, is_code_word}
-use Rattle.locator.specs.Coefficients.{halves_of, Syndrome}
-use Rattle.nearest.specs.Decoding.{root_place, Measured, Locatable, TurnedRoots, Candidate}
+use Rattle.locator.specs.Coefficients.{halves_of, Syndrome, Located}
+use Rattle.nearest.specs.Decoding.{root_place, Candidate}
 use Rattle.nearest.specs.Errors.{roots}
 use Rattle.nearest.specs.Found.{is_error}
 use Rattle.nearest.specs.Turned.{turned}
@@ -125,87 +122,57 @@ module _ {c : Parameters} {h cols : List ℕ} (O : OnColumns c h cols) where
 
   module _ (received : List ℕ) where
     abbrev s : ℕ → ℕ
-    s = syndrome_at c h cols received
+    s = signature_sum c.m h cols received
 
-    -- the signature's sums are those of the definition
-    pub syndrome_stored : {k : ℕ} {new : List ℕ} → k ≡ c.t → new ≡ tabulate k (signature_sum c.m h cols received) → new ≡ syndrome_of c h cols received
-    unfolding syndrome_of
-    syndrome_stored long e =
-        e ∙ ap (λ (k : ℕ). tabulate k (signature_sum c.m h cols received)) long
-        ∙ tabulate_cong c.t (λ i l. signature_syndrome O.accepted O.selected received i l)
+    pub syndrome_stored : {k : ℕ} {new : List ℕ} → k ≡ c.t → new ≡ tabulate k s → new ≡ tabulate c.t s
+    syndrome_stored long e = e ∙ ap (λ (k : ℕ). tabulate k s) long
 
-    syndrome_at_lem : {ss : List ℕ} → ss ≡ syndrome_of c h cols received → (i : ℕ) → i < c.t → entry_of ss i ≡ s i
-    unfolding syndrome_of
+    syndrome_at_lem : {ss : List ℕ} → ss ≡ tabulate c.t s → (i : ℕ) → i < c.t → entry_of ss i ≡ s i
     syndrome_at_lem e i l = ap (λ (x : List ℕ). entry_of x i) e ∙ get_d_tabulate c.t s i 0 l
 
-    syndrome_long : {ss : List ℕ} → ss ≡ syndrome_of c h cols received → length ss ≡ c.t
-    unfolding syndrome_of
-    syndrome_long e = ap length e ∙ length-tabulate c.t s
+    pub syndrome_fits : {rs ss : List ℕ} → rs ≡ tabulate c.t z → ss ≡ tabulate c.t s → Syndrome c.m rs ss
+    syndrome_fits {rs} {ss} er es =
+        let many : length rs ≡ c.t = ap length er ∙ length-tabulate c.t z in
+        record {
+          few = subst (λ (k : ℕ). k ≤ longest / 2) (sym many) (halved O.accepted.limits.t_high (n_short O.accepted.limits));
+          long = ap length es ∙ length-tabulate c.t s ∙ sym many;
+          inside = λ i l.
+              let li : i < c.t = subst (λ (k : ℕ). i < k) many l in
+              subst (gf c.m).In (sym (syndrome_at_lem es i li)) (signature_in O.accepted O.selected received i li);
+        }
+      where
+        halved : c.t ≤ c.n / 2 → c.n ≤ longest → c.t ≤ longest / 2
+        halved a b = omega arith
 
-    -- ---- what was measured
+    -- what `turn_roots` makes of the pair that the pass leaves is the candidate
+    module _ {rs ls ss even odd word : List ℕ} {number : ℕ} (er : rs ≡ tabulate c.t z) (el : ls ≡ tabulate c.n L)
+        (es : ss ≡ tabulate c.t s) (P : Located c.m rs ss even odd)
+        (number_is : number ≡ count (length cols) (root_place c.m even odd ls cols))
+        (word_is : word ≡ turned (length cols) (root_place c.m even odd ls cols) received) where
+      root_error : (j : ℕ) → j < length cols → root_place c.m even odd ls cols j ≡ is_error c h cols (halves_of (gf c.m) even odd) j
+      unfolding root_place is_error
+      root_error j l =
+          ap (λ (x : ℕ). eqb (value (gf c.m) (halves_of (gf c.m) even odd) x) 0)
+          (support_at_lem el (entry_of cols j) (O.selected.inside j l))
 
-    module _ {rs ls ss : List ℕ} (M : Measured c h cols received rs ls ss) where
-      many : length rs ≡ c.t
-      many = ap length M.roots_are ∙ length-tabulate c.t z
-
-      syndrome_fits : Syndrome c.m rs ss
-      syndrome_fits =
+      pub candidate_found : Candidate c h cols received number word
+      unfolding turned
+      candidate_found =
+          let many : length rs ≡ c.t = ap length er ∙ length-tabulate c.t z in
+          let pair = halves_of (gf c.m) even odd in
           record {
-            few = subst (λ (k : ℕ). k ≤ longest / 2) (sym many) (halved O.accepted.limits.t_high (n_short O.accepted.limits));
-            long = syndrome_long M.syndrome_is ∙ sym many;
-            inside = λ i l.
-                let li : i < c.t = subst (λ (k : ℕ). i < k) many l in
-                subst (gf c.m).In
-                (signature_syndrome O.accepted O.selected received i li ∙ sym (syndrome_at_lem M.syndrome_is i li))
-                (signature_in O.accepted O.selected received i li);
+            pair = pair;
+            degree = P.degree;
+            rest = P.rest;
+            rest_degree = P.rest_degree;
+            invariant =
+                invariant_cong (λ k l. sym (root_at_lem er k l))
+                (λ k l. sym (syndrome_at_lem es k l ∙ signature_syndrome O.accepted O.selected received k l))
+                (subst (λ (i : ℕ). Invariant (gf c.m) (entry_of rs) (entry_of ss) i pair P.degree P.rest P.rest_degree) many
+                P.invariant);
+            least = P.least;
+            number_is = number_is ∙ count_tests (length cols) (root_place c.m even odd ls cols) _ root_error;
+            word_is =
+                word_is
+                ∙ tabulate_cong (length cols) (λ j l. ap (λ (b : Bool). entry_of received j ⊕ cond b 1 0) (root_error j l));
           }
-        where
-          halved : c.t ≤ c.n / 2 → c.n ≤ longest → c.t ≤ longest / 2
-          halved a b = omega arith
-
-      pub locatable : Locatable c.m rs ls ss cols
-      locatable =
-          record {
-            width = O.accepted.limits.width;
-            points = root_points M.roots_are;
-            syndrome_fits = syndrome_fits;
-            support_in = support_in M.support_is;
-            columns_in = column_in M.support_is;
-          }
-
-      -- the syndrome is nothing exactly if the word is a code word
-      pub code_word_known : all (length ss) (λ i. eqb (entry_of ss i) 0) ≡ is_code_word c h cols received
-      unfolding is_code_word
-      code_word_known =
-          ap (λ (k : ℕ). all k (λ i. eqb (entry_of ss i) 0)) (syndrome_long M.syndrome_is)
-          ∙ all_cong c.t (λ i l. ap (λ (x : ℕ). eqb x 0) (syndrome_at_lem M.syndrome_is i l))
-
-      -- what `turn_roots` makes of the pair that the pass leaves is the candidate
-      module _ {number : ℕ} {word : List ℕ} (T : TurnedRoots c.m rs ls ss cols received number word) where
-        abbrev pair : Halves ℕ
-        pair = halves_of (gf c.m) T.even T.odd
-
-        root_error : (j : ℕ) → j < length cols → root_place c.m T.even T.odd ls cols j ≡ is_error c h cols pair j
-        unfolding root_place is_error
-        root_error j l =
-            ap (λ (x : ℕ). eqb (value (gf c.m) pair x) 0) (support_at_lem M.support_is (entry_of cols j) (O.selected.inside j l))
-
-        pub candidate_found : Candidate c h cols received number word
-        unfolding turned
-        candidate_found =
-            let P = T.located in
-            record {
-              pair = pair;
-              degree = P.degree;
-              rest = P.rest;
-              rest_degree = P.rest_degree;
-              invariant =
-                  invariant_cong (λ k l. sym (root_at_lem M.roots_are k l)) (λ k l. sym (syndrome_at_lem M.syndrome_is k l))
-                  (subst (λ (i : ℕ). Invariant (gf c.m) (entry_of rs) (entry_of ss) i pair P.degree P.rest P.rest_degree) many
-                  P.invariant);
-              least = P.least;
-              number_is = T.number_is ∙ count_tests (length cols) (root_place c.m T.even T.odd ls cols) _ root_error;
-              word_is =
-                  T.word_is
-                  ∙ tabulate_cong (length cols) (λ j l. ap (λ (b : Bool). entry_of received j ⊕ cond b 1 0) (root_error j l));
-            }

@@ -50,20 +50,20 @@ module _ (n : ℕ) (p : ℕ → Bool) (r : List ℕ) where
   unfolding turned
   length-turned = length-tabulate n (λ j. entry_of r j ⊕ cond (p j) 1 0)
 
-  pub turned_at_lem : (j : ℕ) → j < n → entry_of (turned n p r) j ≡ entry_of r j ⊕ cond (p j) 1 0
+  pub turned_at : (j : ℕ) → j < n → entry_of (turned n p r) j ≡ entry_of r j ⊕ cond (p j) 1 0
   unfolding turned
-  turned_at_lem j l = get_d_tabulate n (λ j. entry_of r j ⊕ cond (p j) 1 0) j 0 l
+  turned_at j l = get_d_tabulate n (λ j. entry_of r j ⊕ cond (p j) 1 0) j 0 l
 
   module _ (bits : Inside gf2 n (entry_of r)) where
     pub turned_bits : Inside gf2 n (entry_of (turned n p r))
-    turned_bits j l = subst (λ (x : ℕ). x < 2) (sym (turned_at_lem j l)) (turned_bit (entry_of r j) (p j) (bits j l))
+    turned_bits j l = subst (λ (x : ℕ). x < 2) (sym (turned_at j l)) (turned_bit (entry_of r j) (p j) (bits j l))
 
     -- it differs from r at as many places as are turned
     pub turned-distance : distance n r (turned n p r) ≡ count n p
     unfolding distance differs
     turned-distance =
         count_tests n (differs r (turned n p r)) p
-        (λ j l. ap (λ (x : ℕ). not (eqb (entry_of r j) x)) (turned_at_lem j l) ∙ turned_unequal (entry_of r j) (p j) (bits j l))
+        (λ j l. ap (λ (x : ℕ). not (eqb (entry_of r j) x)) (turned_at j l) ∙ turned_unequal (entry_of r j) (p j) (bits j l))
 
     -- turned where r differs from w, it is w
     pub turned_is : {w : List ℕ} → IsBits n w → ((j : ℕ) → j < n → p j ≡ differs r w j) → turned n p r ≡ w
@@ -71,5 +71,5 @@ module _ (n : ℕ) (p : ℕ → Bool) (r : List ℕ) where
     turned_is {w} bw same =
         ext_get_or 0 (turned n p r) w (length-turned ∙ sym bw.long)
         (λ j l. let l' = subst (λ (k : ℕ). j < k) length-turned l in
-        turned_at_lem j l' ∙ ap (λ (b : Bool). entry_of r j ⊕ cond b 1 0) (same j l')
+        turned_at j l' ∙ ap (λ (b : Bool). entry_of r j ⊕ cond b 1 0) (same j l')
         ∙ turned_other (entry_of r j) (entry_of w j) (bits j l') (bw.bits j l'))

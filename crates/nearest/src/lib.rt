@@ -2,8 +2,7 @@
 // one word that can be the repair of a word received, and the test whether a word is a code word.
 //
 // All of it is for an accepted code, whose inverses 1/h are known, and for any list of its columns: place j of a word is column cols_j.
-ghost use Rattle.std.specs.Prelude.{◌≡◌, ℕ, ◌<◌, ◌≤◌, eqb, length};
-ghost use Rattle.algebra.specs.All.{all};
+ghost use Rattle.std.specs.Prelude.{◌≡◌, ℕ, ◌<◌, ◌≤◌, length};
 ghost use Rattle.algebra.specs.Lists.{entry_of};
 ghost use Rattle.algebra.specs.Places.{count};
 ghost use Rattle.field.specs.Gf.{Width};
@@ -13,7 +12,7 @@ ghost use Rattle.slices.specs.Lengths.{longest};
 ghost use Rattle.parity.specs.Selected.{OnColumns};
 ghost use Rattle.parity.specs.Word.{is_code_word};
 ghost use Rattle.locator.specs.Coefficients.{Pair};
-ghost use Rattle.nearest.specs.Decoding.{root_place, Received, Measured, Locatable, TurnedRoots};
+ghost use Rattle.nearest.specs.Decoding.{root_place, Received, Candidate};
 ghost use Rattle.nearest.specs.Turned.{turned};
 
 use basis::Column;
@@ -22,6 +21,7 @@ use locator::HALF;
 use params::Parameters;
 use parity::syndromes;
 use signature::{store_roots, store_support};
+use slices::LONGEST;
 
 // Whether the sums of the word's columns are nought in each of the t rows.
 pub fn is_code_word(c: Parameters, h: &[Elem], cols: &[Column], word: &[u8]) -> bool
@@ -71,9 +71,9 @@ fn turn_roots(
     turned
 }
 
-// What the search for the nearest code word goes by: the roots and the support of the code, which are the same for every word, and the syndrome of the
-// word received. Each is written into its slice.
-pub fn measure(
+// The one word that can be the repair of the word received, and the number of places in which they differ. The other slices that it writes have room
+// for the roots, the support and the syndrome.
+fn find_candidate(
     c: Parameters,
     h: &[Elem],
     inverses: &[Elem],
@@ -82,47 +82,48 @@ pub fn measure(
     roots: &mut [Elem],
     support: &mut [Elem],
     syndrome: &mut [Elem],
-)
-    requires received { Received c h.now inverses.now cols.now received.now }
+    word: &mut [u8],
+) -> usize
+    requires received { Received c h.now inverses.now cols.now received.now × (length word.old ≡ length cols.now) }
     requires roots_len { (length roots.old ≡ c.t) × (length support.old ≡ c.n) × (length syndrome.old ≡ c.t) }
-    ensures { Measured c h.now cols.now received.now roots.new support.new
-        syndrome.new }
+    ensures { Candidate c h.now cols.now received.now result word.new }
 {
+    let mut even: [Elem; HALF] = [0; HALF];
+    let mut odd: [Elem; HALF] = [0; HALF];
     let omega = c.omega as Elem;
     store_roots(inverses, omega, roots);
     store_support(inverses, omega, support);
     syndromes::syndrome(c.m, h, cols, received, syndrome);
+    locator::locate(c.m, roots, syndrome, &mut even, &mut odd);
+    turn_roots(c.m, roots.len(), &even, &odd, support, cols, received, word)
 }
 
-// Whether a syndrome is nothing, as that of a code word is.
-pub fn is_nothing(syndrome: &[Elem]) -> bool
-    ensures { result ≡ all (length syndrome.now) (λ i. eqb (entry_of syndrome.now i) 0) }
-{
-    for i in 0..syndrome.len() {
-        if syndrome[i] != 0 {
-            return false;
-        }
-    }
-    true
-}
-
-// The one word that can be the repair of the word received, by its syndrome, and the number of places in which they differ.
+// The same, with room of its own.
 pub fn candidate(
-    m: u32,
-    roots: &[Elem],
-    support: &[Elem],
-    syndrome: &[Elem],
+    c: Parameters,
+    h: &[Elem],
+    inverses: &[Elem],
     cols: &[Column],
     received: &[u8],
     word: &mut [u8],
 ) -> usize
-    requires locatable { Locatable m roots.now support.now syndrome.now cols.now }
-    requires received_len { (length received.now ≡ length cols.now) × (length word.old ≡ length cols.now) }
-    ensures { TurnedRoots m roots.now support.now syndrome.now cols.now received.now result
-        word.new }
+    requires { Received c h.now inverses.now cols.now received.now × (length word.old ≡ length cols.now) }
+    ensures { Candidate c h.now cols.now received.now result word.new }
 {
-    let mut even: [Elem; HALF] = [0; HALF];
-    let mut odd: [Elem; HALF] = [0; HALF];
-    locator::locate(m, roots, syndrome, &mut even, &mut odd);
-    turn_roots(m, roots.len(), &even, &odd, support, cols, received, word)
+    let mut roots: [Elem; LONGEST] = [0; LONGEST];
+    let mut support: [Elem; LONGEST] = [0; LONGEST];
+    let mut syndrome: [Elem; LONGEST] = [0; LONGEST];
+    let n = c.n as usize;
+    let t = c.t as usize;
+    find_candidate(
+        c,
+        h,
+        inverses,
+        cols,
+        received,
+        &mut roots[..t],
+        &mut support[..n],
+        &mut syndrome[..t],
+        word,
+    )
 }

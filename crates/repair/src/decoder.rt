@@ -1,70 +1,18 @@
 // Repair for an accepted code, whose inverses 1/h are known, and for any list of its columns: place j of a word is column cols_j.
 ghost use Rattle.std.specs.Prelude.{◌≡◌, length};
-ghost use Rattle.slices.specs.Bits.{IsBits};
 ghost use Rattle.signature.specs.Inverses.{Inverted};
 ghost use Rattle.parity.specs.Selected.{OnColumns};
-ghost use Rattle.nearest.specs.Decoding.{Received, Measured};
 ghost use Rattle.repair.specs.Decoding.{word_answer, word_after, Decoded};
 
 use crate::Recovery;
 use basis::Column;
 use field::Elem;
-use nearest::{candidate, is_code_word, is_nothing, measure};
+use nearest::{candidate, is_code_word};
 use params::Parameters;
 use slices::{LONGEST, all_bits, copy_bits};
 
-// Repair of a word of bits, of which the roots, the support and the syndrome are known, into `word`, which is used as room where there is none: 10,
-// or the number of places turned. A code word needs no locator. What the pass finds is the repair if few places were turned and it is a code word, and
-// else there is none.
-pub fn decode_measured(
-    c: Parameters,
-    h: &[Elem],
-    roots: &[Elem],
-    support: &[Elem],
-    syndrome: &[Elem],
-    cols: &[Column],
-    received: &[u8],
-    word: &mut [u8],
-) -> Recovery
-    requires on_columns { OnColumns c h.now cols.now × IsBits (length cols.now) received.now × (length word.old ≡ length cols.now) }
-    requires measured { Measured c h.now cols.now received.now roots.now support.now syndrome.now }
-    ensures { Decoded c h.now cols.now received.now result word.new }
-{
-    if is_nothing(syndrome) {
-        copy_bits(received, word);
-        return Recovery::Repaired(0);
-    }
-    let turned = candidate(c.m, roots, support, syndrome, cols, received, word) as u32;
-    if c.t < turned {
-        return Recovery::Refused(refusals::TOO_FAR);
-    }
-    if !is_code_word(c, h, cols, word) {
-        return Recovery::Refused(refusals::TOO_FAR);
-    }
-    Recovery::Repaired(turned)
-}
-
-// The same of any word of bits. The slices that it writes beside `word` have room for the roots, the support and the syndrome.
-fn decode_bits(
-    c: Parameters,
-    h: &[Elem],
-    inverses: &[Elem],
-    cols: &[Column],
-    received: &[u8],
-    roots: &mut [Elem],
-    support: &mut [Elem],
-    syndrome: &mut [Elem],
-    word: &mut [u8],
-) -> Recovery
-    requires received { Received c h.now inverses.now cols.now received.now × (length word.old ≡ length cols.now) }
-    requires roots_len { (length roots.old ≡ c.t) × (length support.old ≡ c.n) × (length syndrome.old ≡ c.t) }
-    ensures { Decoded c h.now cols.now received.now result word.new }
-{
-    measure(c, h, inverses, cols, received, roots, support, syndrome);
-    decode_measured(c, h, roots, support, syndrome, cols, received, word)
-}
-
-// Repair into `word`, which is used as room where there is none: 8, 10, or the number of places turned.
+// Repair into `word`, which is used as room where there is none: 8, 10, or the number of places turned. A code word needs no locator. What the pass
+// finds is the repair if few places were turned and it is a code word, and else there is none.
 pub fn decode(
     c: Parameters,
     h: &[Elem],
@@ -80,22 +28,18 @@ pub fn decode(
     if !all_bits(received) {
         return Recovery::Refused(refusals::BIT);
     }
-    let mut roots: [Elem; LONGEST] = [0; LONGEST];
-    let mut support: [Elem; LONGEST] = [0; LONGEST];
-    let mut syndrome: [Elem; LONGEST] = [0; LONGEST];
-    let n = c.n as usize;
-    let t = c.t as usize;
-    decode_bits(
-        c,
-        h,
-        inverses,
-        cols,
-        received,
-        &mut roots[..t],
-        &mut support[..n],
-        &mut syndrome[..t],
-        word,
-    )
+    if is_code_word(c, h, cols, received) {
+        copy_bits(received, word);
+        return Recovery::Repaired(0);
+    }
+    let turned = candidate(c, h, inverses, cols, received, word) as u32;
+    if c.t < turned {
+        return Recovery::Refused(refusals::TOO_FAR);
+    }
+    if !is_code_word(c, h, cols, word) {
+        return Recovery::Refused(refusals::TOO_FAR);
+    }
+    Recovery::Repaired(turned)
 }
 
 // Repair into the buffer `repaired`, which is written only if it succeeds.

@@ -1,7 +1,7 @@
 -- How the calls on rows end, over plain numbers and lists: which number is due, and what the buffer then holds.
 use mathlib.Core.Path.{◌≡◌, refl, sym, ap, ap₂, ◌∙◌, subst}
 use mathlib.Core.Logic.{◌≢◌}
-use mathlib.Core.Bool.{Bool, true, false, cond}
+use mathlib.Core.Bool.{true, false}
 use mathlib.Core.List.{List, [], ◌∷◌, ◌++◌}
 use Prim.Native.Nat.{ℕ, zero, suc, ◌≤◌, ◌<◌}
 use native.Mathlib.Omega.{arith}
@@ -17,8 +17,8 @@ use Rattle.refusals.specs.Rules.{◌unless◌, fault, unless_refused}
 use Rattle.refusals.specs.RuleLaws.{fault_here, fault_past, fault_none, fault_first, fault_rest, refuse, accept}
 use Rattle.slices.specs.Lengths.{longest}
 use Rattle.params.specs.declared.Parameters.{Parameters}
-use Rattle.basis.specs.Table.{free_at, free_count, Carried}
-use Rattle.messages.specs.CodeBasis.{MessageColumns, CodeBasis, message_is, counted}
+use Rattle.basis.specs.Table.{free_at, Carried}
+use Rattle.messages.specs.CodeBasis.{MessageColumns, CodeBasis, message_is}
 use Rattle.parity.specs.Columns.{dimension, message_of, encoding_of}
 use Rattle.nearest.specs.Repair.{repaired_of}
 use Rattle.repair.specs.declared.Recovery.{Recovery}
@@ -32,7 +32,7 @@ use Rattle.rows.specs.declared.Reading.{Reading}
 use Rattle.rows.specs.declared.Reading.TheVariants.{Read, Refused as NotRead}
 use Rattle.rows.specs.Answers.{write_rules, row_word, carried, read_rules, row_read, reading_answer, reading_after}
 use Rattle.rows.specs.Laws.{read_is, read_apart}
-use Rattle.rows.specs.Parts.{refusal_of, reading_of, ReadInto}
+use Rattle.rows.specs.Parts.{refusal_of, ReadInto}
 
 -- ---- the parts of the arrays that are lent
 
@@ -58,28 +58,6 @@ module _ {answer : Recovery} (turned : ℕ) where
   unfolding unless_refused
   repair_is zero e is = (refl, cc)
   repair_is (suc f) e is = (cc, cc)
-
--- ---- what a repair comes to
-
-module _ {answer : Recovery} (message : List ℕ) where
-  pub refused_reading : {number given : ℕ} → answer ≡ NotRepaired number → given ≡ refusal_of answer → NotRead given ≡ reading_of answer message
-  unfolding refusal_of reading_of
-  refused_reading is e = ap NotRead (e ∙ ap refusal_of is) ∙ ap (λ (r : Recovery). reading_of r message) (sym is)
-
-  module _ {turned : ℕ} (is : answer ≡ Repaired turned) where
-    repaired_reading : (b : Bool) → is_row_message message ≡ b
-        → cond b (Read (row_of (gear_in message) (lamp_in message)) turned) (NotRead 11) ≡ reading_of answer message
-    unfolding reading_of
-    repaired_reading b e =
-        ap (λ (b : Bool). cond b (Read (row_of (gear_in message) (lamp_in message)) turned) (NotRead 11)) (sym e)
-        ∙ ap (λ (r : Recovery). reading_of r message) (sym is)
-
-    pub no_row_reading : is_row_message message ≡ false → NotRead 11 ≡ reading_of answer message
-    no_row_reading e = repaired_reading false e
-
-    pub row_reading : is_row_message message ≡ true → {row : Row} → row ≡ row_of (gear_in message) (lamp_in message)
-        → Read row turned ≡ reading_of answer message
-    row_reading e row_is = ap (λ (r : Row). Read r turned) row_is ∙ repaired_reading true e
 
 -- ---- the rules, where k is the number of message columns
 
@@ -131,7 +109,7 @@ module _ (c : Parameters) (h cols : List ℕ) {k : ℕ} (k-is : k ≡ dimension 
         due_refused f broken = record { answer = refuse NotRead _ f broken; repaired = λ z. absurd (broken (f ∙ z)) }
 
         -- repair's refusal is handed back
-        not_repaired : {number given : ℕ} → answer ≡ NotRepaired number → given ≡ refusal_of answer → Ends (NotRead given)
+        pub not_repaired : {number given : ℕ} → answer ≡ NotRepaired number → given ≡ refusal_of answer → Ends (NotRead given)
         unfolding word_answer
         not_repaired is e =
             let (due, broken) = refusal_is (turned_count c h cols received) (fault (word_rules c h cols received)) D.answer_is is in
@@ -156,10 +134,10 @@ module _ (c : Parameters) (h cols : List ℕ) {k : ℕ} (k-is : k ≡ dimension 
               ap (λ (x : List ℕ). fault ((11 unless is_row_message x) ∷ [])) said_is
               ∙ sym (past_wide ∙ fault_rest (word_rules c h cols received) _ tt passes.0)
 
-          no_row : is_row_message message ≡ false → Ends (NotRead 11)
+          pub no_row : is_row_message message ≡ false → Ends (NotRead 11)
           no_row e = due_refused (sym (fault_here 11 [] e) ∙ last_rule) (λ q. omega arith)
 
-          row_found : is_row_message message ≡ true → {row : Row} → row ≡ row_of (gear_in message) (lamp_in message) → Ends (Read row turned)
+          pub row_found : is_row_message message ≡ true → {row : Row} → row ≡ row_of (gear_in message) (lamp_in message) → Ends (Read row turned)
           unfolding reading_answer row_read
           row_found e row_is =
               record {
@@ -168,15 +146,6 @@ module _ (c : Parameters) (h cols : List ℕ) {k : ℕ} (k-is : k ≡ dimension 
                     ∙ accept {k = 0} NotRead _ (sym (fault_none ((11 unless is_row_message message) ∷ []) (e, tt)) ∙ last_rule) refl;
                 repaired = λ z. word_is;
               }
-
-        -- so that what the repair comes to is what reading answers
-        pub read_into : {message : List ℕ} → message ≡ message_of c h cols word → {reading : Reading} → reading ≡ reading_of answer message → Ends reading
-        read_into {message} said {reading} e = decided answer refl (is_row_message message) refl
-          where
-            decided : (a : Recovery) → answer ≡ a → (b : Bool) → is_row_message message ≡ b → Ends reading
-            decided (NotRepaired number) is b t = subst Ends (refused_reading message is refl ∙ sym e) (not_repaired is refl)
-            decided (Repaired turned) is true t = subst Ends (row_reading message is t refl ∙ sym e) (row_found is said t refl)
-            decided (Repaired turned) is false t = subst Ends (no_row_reading message is t ∙ sym e) (no_row is said t)
 
 -- ---- what is copied of the word: nothing where the answer is a refusal, and else the repaired word
 
@@ -195,21 +164,9 @@ module _ {c : Parameters} {h cols received word : List ℕ} where
 -- ---- a word and the message at its free places
 
 -- what is taken out of these is the message that the word carries
-taken_out : {c : Parameters} {h cols leads : List ℕ} {k : ℕ} → MessageColumns c h cols leads k → {message : List ℕ} (word : List ℕ)
+pub taken_out : {c : Parameters} {h cols leads : List ℕ} {k : ℕ} → MessageColumns c h cols leads k → {message : List ℕ} (word : List ℕ)
     → message ≡ chosen (length word) (free_at leads) (entry_of word) → length word ≡ length cols → message ≡ message_of c h cols word
 taken_out {leads = leads} M word e long = e ∙ ap (λ (i : ℕ). chosen i (free_at leads) (entry_of word)) long ∙ sym (message_is M word)
-
--- of a word for these columns, and the repair that it is left by
-module _ {c : Parameters} {h cols leads : List ℕ} {k : ℕ} (M : MessageColumns c h cols leads k) (word : List ℕ) (long : length word ≡ length cols) where
-  pub free_places : (length word ≤ length leads) × (k ≡ free_count (length word) leads)
-  free_places = (
-    subst (λ (i : ℕ). i ≤ length leads) (sym long) M.long,
-    counted M ∙ ap (λ (i : ℕ). free_count i leads) (sym long),
-  )
-
-  pub row_read : row_bits ≤ k → {received : List ℕ} {answer : Recovery} → Decoded c h cols received answer word
-      → {reading : Reading} → reading ≡ reading_of answer (chosen (length word) (free_at leads) (entry_of word)) → ReadInto c h cols received reading word
-  row_read l {received} D e = read_into c h cols M.number received l D (taken_out M word refl long) e
 
 -- a row's message at these, completed, is the row's word
 pub row_carried : {c : Parameters} {h cols rows leads : List ℕ} {k : ℕ} → CodeBasis c h cols rows leads k

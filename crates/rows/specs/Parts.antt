@@ -1,24 +1,17 @@
 -- What the parts of the calls hand to one another.
-use Rattle.std.specs.Prelude.{◌≡◌, cond, List, ℕ}
+use Rattle.std.specs.Prelude.{◌≡◌, List, ℕ}
 use Rattle.refusals.specs.Rules.{fault}
 use Rattle.params.specs.declared.Parameters.{Parameters}
 use Rattle.nearest.specs.Repair.{repaired_of}
 use Rattle.repair.specs.declared.Recovery.{Recovery}
 use Rattle.repair.specs.declared.Recovery.TheVariants.{Repaired, Refused}
-use Rattle.gears.specs.Rows.{gear_in, lamp_in, is_row_message, row_of}
 use Rattle.rows.specs.declared.Reading.{Reading}
-use Rattle.rows.specs.declared.Reading.TheVariants.{Read, Refused as NotRead}
 use Rattle.rows.specs.Answers.{read_rules, reading_answer}
 
 -- the number of a repair that is refused, and 0 of one that succeeded
 unfoldable pub refusal_of : Recovery → ℕ
 refusal_of (Repaired turned) = 0
 refusal_of (Refused number) = number
-
--- what a repair comes to, where the repaired word carries this message
-unfoldable pub reading_of : Recovery → List ℕ → Reading
-reading_of (Repaired turned) message = cond (is_row_message message) (Read (row_of (gear_in message) (lamp_in message)) turned) (NotRead 11)
-reading_of (Refused number) message = NotRead number
 
 -- what reading answers, and in the buffer `word` the repaired word, where a row was read
 pub record ReadInto (c : Parameters) (h cols received : List ℕ) (reading : Reading) (word : List ℕ) : Type 0 where

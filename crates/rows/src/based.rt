@@ -2,16 +2,12 @@
 //
 // The basis is only looked at, so that a caller who keeps it can write and read many rows.
 ghost use Rattle.std.specs.Prelude.{◌≡◌, ◌≤◌, length};
-ghost use Rattle.algebra.specs.Lists.{entry_of};
-ghost use Rattle.algebra.specs.Places.{chosen};
-ghost use Rattle.slices.specs.Bits.{IsBits};
 ghost use Rattle.signature.specs.Inverses.{Inverted};
-ghost use Rattle.basis.specs.Table.{free_at, free_count, Form, Carried};
+ghost use Rattle.basis.specs.Table.{free_count, Form, Carried};
 ghost use Rattle.messages.specs.CodeBasis.{MessageColumns};
 ghost use Rattle.parity.specs.Selected.{OnColumns};
-ghost use Rattle.nearest.specs.Decoding.{Measured};
 ghost use Rattle.gears.specs.Rows.{row_bits, row_message};
-ghost use Rattle.rows.specs.Parts.{refusal_of, reading_of, ReadInto};
+ghost use Rattle.rows.specs.Parts.{refusal_of, ReadInto};
 
 use crate::Reading;
 use basis::Column;
@@ -19,7 +15,7 @@ use field::Elem;
 use gears::{is_row_message, place_row, row_in};
 use params::Parameters;
 use repair::Recovery;
-use repair::decoder::{decode, decode_measured};
+use repair::decoder::decode;
 use systematic::{carry, take_out};
 
 // The word with the row's message, which is made in `message`, at the free places, and the others as the rows of the basis say.
@@ -33,7 +29,7 @@ pub fn write(gear: u32, lamp: u32, rows: &[u64], leads: &[u8], message: &mut [u8
 }
 
 // The row that the word received carries: what repair refuses it by, 11, or the row. The word is repaired into `word`, which is used as room where no
-// row is read; what it carries is taken out into `message`.
+// row is read; what it carries is taken out into `message`, and looked at only if the repair succeeded.
 pub fn read(
     c: Parameters,
     h: &[Elem],
@@ -50,38 +46,6 @@ pub fn read(
     ensures { ReadInto c h.now cols.now received.now result word.new }
 {
     let recovery = decode(c, h, inverses, cols, received, word);
-    row_of(recovery, word, leads, message)
-}
-
-// The same of a word of bits, of which the roots, the support and the syndrome are known.
-pub fn read_measured(
-    c: Parameters,
-    h: &[Elem],
-    roots: &[Elem],
-    support: &[Elem],
-    syndrome: &[Elem],
-    cols: &[Column],
-    leads: &[u8],
-    received: &[u8],
-    message: &mut [u8],
-    word: &mut [u8],
-) -> Reading
-    requires on_columns { OnColumns c h.now cols.now × IsBits (length cols.now) received.now × (length word.old ≡ length cols.now) }
-    requires measured { Measured c h.now cols.now received.now roots.now support.now syndrome.now }
-    requires message_columns { MessageColumns c h.now cols.now leads.now (length message.old) × (row_bits ≤ length message.old) }
-    ensures { ReadInto c h.now cols.now received.now result word.new }
-{
-    let recovery = decode_measured(c, h, roots, support, syndrome, cols, received, word);
-    row_of(recovery, word, leads, message)
-}
-
-// What a repair comes to: its refusal, 11, or the row that the repaired word carries. What that carries is taken out into `message`, and looked at only
-// if the repair succeeded.
-fn row_of(recovery: Recovery, word: &[u8], leads: &[u8], message: &mut [u8]) -> Reading
-    requires word_in_bounds { (length word.now ≤ length leads.now) × (length message.old ≡ free_count (length word.now) leads.now) }
-    requires row_bits_in_bounds { row_bits ≤ length message.old }
-    ensures { result ≡ reading_of recovery (chosen (length word.now) (free_at leads.now) (entry_of word.now)) }
-{
     let Recovery::Repaired(turned) = recovery else {
         return Reading::Refused(refusal(recovery));
     };

@@ -23,7 +23,7 @@ use Rattle.repair.proofs.Decoding.{code_word_decoded, repaired_copied}
 use Rattle.turns.specs.Marks.{stays, code_word, other}
 use Rattle.wire.specs.Wire.{recovery_code}
 use Rattle.scheduler.specs.Round.{none}
-use Rattle.scheduler.specs.RoundLaws.{length-after}
+use Rattle.scheduler.specs.RoundLaws.{length_after}
 use Rattle.scheduler.specs.Parts.{mark_of, answer_of, handed_of}
 
 -- ---- marks
@@ -84,7 +84,7 @@ handed_wide c h cols marks words handed k long p l = either (eqb (entry_of marks
     either : (b : Bool)
         → length (cond b (part (length cols) handed p) (word_after c h cols (part (length cols) words p) (part (length cols) handed p))) ≡ length cols
     either true = old
-    either false = length-after c h cols (part (length cols) words p) (part (length cols) handed p) old
+    either false = length_after c h cols (part (length cols) words p) (part (length cols) handed p) old
 
 -- ---- who no longer waits
 

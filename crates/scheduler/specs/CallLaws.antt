@@ -26,7 +26,7 @@ use Rattle.scheduler.specs.declared.Dash.{Dash}
 use Rattle.scheduler.specs.State.{State, word_at, dash_rules, offer_rules}
 use Rattle.scheduler.specs.StateLaws.{lent_state}
 use Rattle.scheduler.specs.Round.{none, leaves, answer_at, waiting_at, handed_at, round_waiting, round_next, round_answers, round_handed}
-use Rattle.scheduler.specs.RoundLaws.{length-after}
+use Rattle.scheduler.specs.RoundLaws.{length_after}
 use Rattle.scheduler.specs.Parts.{LentState}
 use Rattle.scheduler.specs.Answers.{start_lengths, start_fault, start_waiting, start_next, offer_lengths, offer_fault, offer_waiting, offer_words}
 use Rattle.scheduler.specs.Answers.{round_lengths, round_words, round_rules, round_fault, waiting_after, next_after, answers_after, handed_after}
@@ -189,7 +189,7 @@ module _ (c : Parameters) (h : List ℕ) (s : Setting) (d : Dash) (σ : State) (
 
         wide : (q : ℕ) → q < d.senders → (b : Bool)
             → length (cond b (word_after c h (columns_of c s) (part n σ.words q) (part n handed q)) (part n handed q)) ≡ n
-        wide q lq true = length-after c h (columns_of c s) (part n σ.words q) (part n handed q) (old q lq)
+        wide q lq true = length_after c h (columns_of c s) (part n σ.words q) (part n handed q) (old q lq)
         wide q lq false = old q lq
 
     -- a word that leaves, and one that does not

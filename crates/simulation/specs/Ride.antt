@@ -4,7 +4,8 @@ use Rattle.algebra.specs.Lists.{entry_of}
 use Rattle.algebra.specs.Places.{count}
 use Rattle.params.specs.declared.Parameters.{Parameters}
 use Rattle.nearest.specs.Turned.{turned}
-use Rattle.gears.specs.Rows.{is_of}
+use Rattle.gears.specs.declared.Row.{Row}
+use Rattle.gears.specs.Rows.{lamp_number}
 use Rattle.rows.specs.declared.Reading.{Reading}
 use Rattle.rows.specs.declared.Reading.TheVariants.{Read, Refused}
 use Rattle.rows.specs.Answers.{row_word, reading_answer}
@@ -12,9 +13,13 @@ use Rattle.simulation.specs.declared.Verdict.{Verdict}
 use Rattle.simulation.specs.declared.Verdict.TheVariants.{Right, Held, Wrong}
 use Rattle.simulation.specs.Steps.{Steps, step_count, gear_at, lamp_at, marks_at, is_made}
 
+-- a row that was read is the one that was sent
+abbrev pub as_sent : ℕ → ℕ → Row → Bool
+as_sent gear lamp row = eqb row.gear gear && eqb (lamp_number row.lamp) lamp
+
 -- "right (read as sent), held (refused on reading) and wrong (read, but not as sent)"
 unfoldable pub verdict_of : ℕ → ℕ → Reading → Verdict
-verdict_of gear lamp (Read row count) = cond (is_of gear lamp row) Right Wrong
+verdict_of gear lamp (Read row count) = cond (as_sent gear lamp row) Right Wrong
 verdict_of gear lamp (Refused number) = Held
 
 abbrev pub is_right : Verdict → Bool

@@ -18,7 +18,7 @@ ghost use Rattle.simulation.specs.Parts.{tallied, Countable, Sent, StepsRidden};
 use crate::Verdict;
 use basis::Column;
 use field::Elem;
-use gears::{is_of, is_row};
+use gears::{is_row, lamp_number};
 use params::Parameters;
 use rows::{Reading, based};
 use slices::{LONGEST, all_bits};
@@ -65,7 +65,9 @@ fn verdict(reading: Reading, gear: u32, lamp: u32) -> Verdict
 {
     match reading {
         Reading::Read(row, _) => {
-            if is_of(row, gear, lamp) {
+            let read_gear = row.gear;
+            let read_lamp = row.lamp;
+            if (read_gear == gear) & (lamp_number(read_lamp) == lamp) {
                 Verdict::Right
             } else {
                 Verdict::Wrong

@@ -4,7 +4,6 @@
 
 pub mod block;
 pub mod columns;
-pub mod critical;
 pub mod essence;
 pub mod field;
 pub mod formula;
