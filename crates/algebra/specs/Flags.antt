@@ -20,3 +20,10 @@ failed {r} e h = sym e ∙ not-true r h
 
 pub passed : {r t : Bool} → r ≡ t → not r ≡ false → t ≡ true
 passed {r} e h = sym e ∙ not-false r h
+
+-- the same for branches on the flag itself
+pub found_false : {r t : Bool} → r ≡ t → r ≡ false → t ≡ false
+found_false e h = sym e ∙ h
+
+pub found_true : {r t : Bool} → r ≡ t → r ≡ true → t ≡ true
+found_true e h = sym e ∙ h

@@ -3,6 +3,8 @@
 //
 // The calls of this file take any input: what is out of range is refused by its number, and the lent buffer is written only where the call is
 // Done. What they are made of, for slices that have been checked, stands in `dyadic`.
+#![tactic(auto)]
+
 ghost use Rattle.std.specs.Prelude.{◌≡◌};
 ghost use Rattle.blocks.specs.Answers.{size_fault, pair_fault, block_fault};
 ghost use Rattle.blocks.specs.Answers.{sum_answer, sum_after, product_answer, product_after, inverse_answer, inverse_after};

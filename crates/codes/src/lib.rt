@@ -1,5 +1,7 @@
 // The calls on codes (01's cards): whether one is accepted, and whether two are the same. They take any input, and refuse what breaks a rule by its
 // number.
+#![tactic(auto)]
+
 ghost use Rattle.std.specs.Prelude.{◌≡◌};
 ghost use Rattle.algebra.specs.Lists.{same_list};
 ghost use Rattle.refusals.specs.Rules.{fault};

@@ -3,6 +3,8 @@
 //
 // The functions that begin a call answer the number of all_places, with as many columns at the front of `columns`, or the number that refuses
 // the call.
+#![tactic(auto)]
+
 ghost use Rattle.std.specs.Prelude.{◌≡◌, ℕ, ◌+◌, ◌*◌, ◌≤◌, ◌<◌, ◌/◌, eqb, length, take};
 ghost use Rattle.algebra.specs.Distinct.{distinct};
 ghost use Rattle.algebra.specs.Tabulate.{tabulate};

@@ -1,5 +1,7 @@
 // Dyadic blocks over the fields GF(2^m), for callers that have checked their slices: a width of the table, entries that are elements, lengths that
 // agree. A block is given by its signature; its matrix has entry i, j equal to the signature at i ⊕ j.
+#![tactic(auto)]
+
 ghost use Rattle.std.specs.Prelude.{◌≡◌, ℕ, ◌+◌, ◌<◌, ◌^◌, length};
 ghost use Rattle.algebra.specs.Tabulate.{tabulate};
 ghost use Rattle.field.specs.Gf.{Width, gf};

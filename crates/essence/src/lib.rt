@@ -2,6 +2,8 @@
 // then 1/h_0; and 1/h_i is the sum of the last value and of those at the bits of i.
 //
 // The calls of this file take any input: what breaks a rule is refused by its number, and the lent buffer is written only where the call is Done.
+#![tactic(auto)]
+
 ghost use Rattle.std.specs.Prelude.{◌≡◌, true, not, cond, ℕ, suc, ◌+◌, ◌-◌, ◌^◌, ◌≤◌, length};
 ghost use Rattle.algebra.specs.Lists.{entry_of};
 ghost use Rattle.algebra.specs.Tabulate.{tabulate};

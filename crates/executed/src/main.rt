@@ -1,5 +1,7 @@
 // The cases that are executed: the toy example, which is 01's card T, every pair of a gear and a lamp on it, the limits, short words, formulas, and
 // essences. What this prints is compared with the stored output.
+#![tactic(auto)]
+
 mod essences;
 mod formulas;
 mod pairs;

@@ -2,6 +2,8 @@
 //
 // The calls of this file take any input: what is out of range is refused by its number. Calls for code that has checked its numbers already
 // stand in `internal`.
+#![tactic(auto)]
+
 pub mod internal;
 
 ghost use Rattle.std.specs.Prelude.{◌≡◌};

@@ -1,4 +1,6 @@
 // Numbers in fields of text, and lines of them.
+#![tactic(auto)]
+
 ghost use Rattle.std.specs.Prelude.{◌≡◌, true, ◌+◌, ◌*◌, ◌≤◌, length};
 ghost use Rattle.fields.specs.Fields.{field_width, lead_byte, lead_text, number_text, number_at, holds_at, is_number};
 ghost use Rattle.fields.specs.Fields.{line_text, line_length, numbers_at, is_line};

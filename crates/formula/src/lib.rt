@@ -2,6 +2,8 @@
 // * and / bind before +, and round brackets hold a whole formula again.
 //
 // The call of this file takes any input: what is out of range is refused by its number, and the lent buffer is written only where the call is Done.
+#![tactic(auto)]
+
 mod evaluators;
 mod values;
 

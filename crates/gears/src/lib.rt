@@ -1,4 +1,6 @@
 // Gear rows and their messages: a gear and a lamp, which rows are allowed, the message of a row, and what a message says.
+#![tactic(auto)]
+
 ghost use Rattle.std.specs.Prelude.{◌≡◌, ◌≤◌, ◌<◌, length};
 ghost use Rattle.algebra.specs.Lists.{entry_of};
 ghost use Rattle.gears.specs.Rows.{is_row, row_bits, row_bit, row_message, gear_in, lamp_in, further_zero, is_row_message, lamp_of, lamp_number, row_of};

@@ -1,4 +1,6 @@
 // The lines of the listing of an accepted code.
+#![tactic(auto)]
+
 ghost use Rattle.std.specs.Prelude.{◌≡◌, ◌+◌, ◌*◌, ◌^◌, ◌≤◌, ◌<◌, length};
 ghost use Rattle.algebra.specs.Parts.{joined};
 ghost use Rattle.algebra.specs.Tabulate.{tabulate};

@@ -1,6 +1,8 @@
 // The listing of the code on a sheet, printed.
 //
 // The calls of this file take any text: what is no sheet, or the sheet of a code that is refused, is refused by its number.
+#![tactic(auto)]
+
 ghost use Rattle.std.specs.Prelude.{◌≡◌, [], ◌∷◌};
 ghost use Rattle.fields.specs.Fields.{line_text};
 ghost use Rattle.sheets.specs.Held.{SheetRead};

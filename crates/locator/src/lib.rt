@@ -2,6 +2,8 @@
 //
 // A polynomial is kept by its halves: even(x²) + x·odd(x²). A half is a slice of HALF coefficients, the lowest first, nought past the degree, and
 // only the coefficients up to the degree are worked on.
+#![tactic(auto)]
+
 ghost use Rattle.std.specs.Prelude.{◌≡◌, ℕ, ◌<◌, ◌≤◌, ◌^◌, eqb, length};
 ghost use Rattle.algebra.specs.Locator.Split.{value, discrepancy};
 ghost use Rattle.algebra.specs.Locator.Nodal.{Points};

@@ -1,5 +1,7 @@
 // The message columns of an accepted code, for any list of its columns, where place j of a word is column cols_j: a basis that says which they are
 // and what a word that carries a message holds elsewhere, and the number that refuses a message.
+#![tactic(auto)]
+
 ghost use Rattle.std.specs.Prelude.{◌≡◌, ◌≤◌, length};
 ghost use Rattle.refusals.specs.Rules.{fault};
 ghost use Rattle.slices.specs.Bits.{all_bits};

@@ -2,6 +2,8 @@
 // one word that can be the repair of a word received, and the test whether a word is a code word.
 //
 // All of it is for an accepted code, whose inverses 1/h are known, and for any list of its columns: place j of a word is column cols_j.
+#![tactic(auto)]
+
 ghost use Rattle.std.specs.Prelude.{◌≡◌, ℕ, ◌<◌, ◌≤◌, length};
 ghost use Rattle.algebra.specs.Lists.{entry_of};
 ghost use Rattle.algebra.specs.Places.{count};

@@ -1,5 +1,7 @@
 // The parameters of a code (01's card): width m, length n, number t of roots, offset ω and signature h; and their tests, for every call that is
 // handed some: the number that refuses them, or 0.
+#![tactic(auto)]
+
 ghost use Rattle.std.specs.Prelude.{◌≡◌, ◌≤◌, length};
 ghost use Rattle.refusals.specs.Rules.{fault};
 ghost use Rattle.slices.specs.Lengths.{longest};

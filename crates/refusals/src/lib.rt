@@ -1,4 +1,6 @@
 // Why and how a call ends: the numbers of 01's table, and the outcome of a call whose result stands in lent buffers, or that counts.
+#![tactic(auto)]
+
 ghost use Rattle.std.specs.Prelude.{◌≡◌};
 ghost use Rattle.refusals.specs.Rules.{unless_refused};
 ghost use Rattle.refusals.specs.declared.Outcome.TheVariants.{Done, Refused};

@@ -2,6 +2,8 @@
 //
 // The calls take any input: `repair` for the whole code, `selection::repair` for a selection of its blocks. Both find the columns of the places that
 // `hidden` marks as sent, and go on in `begun`. What is done for an accepted code and any of its columns stands in `decoder`.
+#![tactic(auto)]
+
 mod begun;
 pub mod decoder;
 pub mod selection;

@@ -3,6 +3,8 @@
 // The calls take any input: those of this file for the whole code, those of `selection` for a selection of its blocks. Both find the columns of the
 // places that `hidden` marks as sent, and go on in `begun`. What is done for an accepted code and any of its columns stands in `internal`, and what is done once the basis of the
 // code is known in `based`.
+#![tactic(auto)]
+
 pub mod based;
 mod begun;
 mod internal;

@@ -3,6 +3,8 @@
 //
 // The caller keeps the state: `waiting`, a mark for each sender, 1 where it has a word waiting; `words`, a word for each, one after the other; and
 // `next`, a single number, the sender whose turn it is. The code is checked once a call.
+#![tactic(auto)]
+
 mod faults;
 mod rounds;
 

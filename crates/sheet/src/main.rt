@@ -1,4 +1,6 @@
 // Reads a sheet from standard input, and prints the listing of its code or the number that refuses it.
+#![tactic(auto)]
+
 use libc::{STDIN_FILENO, STDOUT_FILENO};
 use refusals::Counted;
 

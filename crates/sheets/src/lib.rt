@@ -1,4 +1,6 @@
 // A sheet read: whether a text is one, and the code on it.
+#![tactic(auto)]
+
 ghost use Rattle.std.specs.Prelude.{◌≡◌, true, ◌≤◌, length, take};
 ghost use Rattle.slices.specs.Lengths.{longest};
 ghost use Rattle.sheets.specs.Sheet.{second, sheet_parameters, sheet_n, sheet_h, is_sheet};

@@ -3,6 +3,8 @@
 //
 // A call on words begins here. The functions that begin a call answer the number of sent places, with as many columns at the front of `columns`, or
 // the number that refuses the call.
+#![tactic(auto)]
+
 ghost use Rattle.std.specs.Prelude.{◌≡◌, ℕ, ◌≤◌, eqb, length, take};
 ghost use Rattle.refusals.specs.Rules.{fault, unless_refused};
 ghost use Rattle.refusals.specs.declared.Counted.TheVariants.{Count, Refused};

@@ -1,5 +1,7 @@
 // 01's three conditions on a signature, for a signature of elements whose length is a power of two, and the roots and the support of one that keeps
 // them. What they are made of, a test for zeros, one for equal entries and the inverses of all entries, serves other lists of elements too.
+#![tactic(auto)]
+
 ghost use Rattle.std.specs.Prelude.{◌≡◌, true, ◌≤◌, ◌<◌, ◌^◌, length};
 ghost use Rattle.algebra.specs.Distinct.{distinct};
 ghost use Rattle.algebra.specs.Lists.{entry_of};

@@ -2,6 +2,8 @@
 // before its code is chosen.
 //
 // The code is checked once, and its basis made once, for all the steps of a ride.
+#![tactic(auto)]
+
 mod steps;
 
 ghost use Rattle.std.specs.Prelude.{◌≡◌, length};

@@ -1,4 +1,6 @@
 // What every call asks of the slices that it is lent.
+#![tactic(auto)]
+
 ghost use Rattle.std.specs.Prelude.{◌≡◌, length};
 ghost use Rattle.field.specs.Gf.{Width};
 ghost use Rattle.slices.specs.Lengths.{is_power};

@@ -1,4 +1,6 @@
 // What the basis says of words: which places are free, and the entries at the others.
+#![tactic(auto)]
+
 ghost use Rattle.std.specs.Prelude.{◌≡◌, cond, ◌<◌, ◌≤◌, length};
 ghost use Rattle.algebra.specs.Gf2.{gf2};
 ghost use Rattle.algebra.specs.Echelon.{rest};

@@ -1,5 +1,7 @@
 // Whose turn it is. Of the senders whose words have to be repaired, so many are tried in a round: in turn, from the sender on who comes after the one
 // last tried (round robin).
+#![tactic(auto)]
+
 ghost use Rattle.std.specs.Prelude.{◌≡◌, ◌+◌, ◌%◌, ◌<◌, length};
 ghost use Rattle.turns.specs.Marks.{marks_after, turn_after_marks};
 

@@ -1,4 +1,6 @@
 // Answers as numbers, since no enum crosses into C: the value, or minus the refusal's number.
+#![tactic(auto)]
+
 ghost use Rattle.std.specs.Prelude.{◌≡◌};
 ghost use Rattle.wire.specs.Wire.{minus, element_code, outcome_code, sameness_code, counted_code, recovery_code, reading_code};
 

@@ -2,6 +2,8 @@
 //
 // The calls take any input: those of this file for the whole code, those of `selection` for a selection of its blocks. Both find the columns of the
 // places that `hidden` marks as sent, and go on in `begun`. What is done for an accepted code and any of its columns stands in `internal`.
+#![tactic(auto)]
+
 mod begun;
 pub mod internal;
 pub mod selection;

@@ -1,0 +1,12 @@
+-- `packed::clear` meets its contract, word by word.
+use mathlib.Core.Path.{◌≡◌, refl, sym, subst}
+use Prim.Native.Nat.{◌-◌}
+use native.Mathlib.Omega.{arith}
+use lib.ListN.{length}
+use Rattle.algebra.specs.Filling.{Filling, filling_start, filling_index, filling_turn, filling_length, filling_end}
+use Rattle.basis.specs.Packed.{Cleared, cleared}
+use borrow.Author.Rules.{rules}
+use Rattle.basis.proofs.packed.clear.Given as goal
+
+abbrev pub invariant-loop-k : goal.invariant-loop-k
+invariant-loop-k l = (l.k-end ≡ length l.initial.row) × Filling (λ j. 0) (length l.initial.row) l.initial.row l.row l.k

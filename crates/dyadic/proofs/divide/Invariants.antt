@@ -1,0 +1,16 @@
+-- `divide` meets its contract: the loop fills the buffer with the quotients of entries.
+use mathlib.Core.Path.{ap, ◌∙◌}
+use mathlib.Core.List.{List}
+use Prim.Native.Nat.{ℕ, ◌-◌}
+use lib.ListN.{length, get_or}
+use borrow.Author.Rules.{rules}
+use Rattle.algebra.specs.Filling.{Filling, filling_start, filling_length, filling_index, filling_turn, filling_end}
+use Rattle.field.specs.Gf.{gf}
+use Rattle.dyadic.specs.Block.{quotient}
+use Rattle.dyadic.proofs.divide.Given as goal
+
+abbrev pub quotients : ℕ → List ℕ → ℕ → ℕ → ℕ
+quotients m a c j = (gf m).mul (get_or a j 0) ((gf m).inv c)
+
+abbrev pub invariant-loop-i : goal.invariant-loop-i
+invariant-loop-i l = Filling (quotients l.m l.a l.c) (length l.a) l.initial.out l.out l.i

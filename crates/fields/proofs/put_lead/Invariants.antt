@@ -1,0 +1,13 @@
+-- `put_lead` meets its contract. The loop's invariant: the bytes passed are stored, and the others are to hold `rest`.
+use native.Mathlib.Omega.{arith}
+use Prim.Native.Nat.{◌≤◌}
+use Rattle.fields.specs.Fields.{lead_text}
+use Rattle.fields.proofs.Printing.{Printing, printing_start, printing_length, printing_turn, printing_end}
+use borrow.Author.Rules.{rules}
+use Rattle.fields.proofs.put_lead.Given as goal
+
+abbrev pub invariant-loop-i : goal.invariant-loop-i
+invariant-loop-i l = (l.i ≤ l.count) × Printing (lead_text l.count l.value) l.at l.initial.out l.out l.i l.rest
+
+abbrev pub decreases-loop-i : goal.decreases-loop-i
+decreases-loop-i l = l.i

@@ -1,0 +1,18 @@
+-- `lamp_number` meets its contract, lamp by lamp.
+use mathlib.Core.Path.{sym, ap}
+use lib.Dec.{lit<}
+use Rattle.gears.specs.Rows.{lamp_number}
+use borrow.Author.Rules.{rules}
+use Rattle.gears.proofs.lamp_number.Goals as goal
+
+pub returns-in-Dark : goal.returns-in-Dark
+unfolding lamp_number
+returns-in-Dark c = (ap lamp_number (sym c.enum_told-1.given.1), lit< tt)
+
+pub returns-in-Green : goal.returns-in-Green
+unfolding lamp_number
+returns-in-Green c = (ap lamp_number (sym c.enum_told-in-Green-1.given.1), lit< tt)
+
+pub returns-in-Amber : goal.returns-in-Amber
+unfolding lamp_number
+returns-in-Amber c = (ap lamp_number (sym c.enum_told-in-Amber-1.given.1), lit< tt)

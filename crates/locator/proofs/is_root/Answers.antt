@@ -1,0 +1,15 @@
+-- `is_root` meets its contract.
+use mathlib.Core.Path.{ap}
+use Prim.Native.Nat.{ℕ}
+use lib.Dec.{eqb}
+use Rattle.algebra.specs.Xor.{◌⊕◌}
+use Rattle.locator.proofs.Values.{value_at}
+use borrow.Author.Rules.{rules}
+use Rattle.locator.proofs.is_root.Goals as goal
+
+pub returns : goal.returns
+unfolding ◌⊕◌
+returns c =
+    ap (λ (v : ℕ). eqb v 0)
+    (value_at c.args.m c.args.even.now c.args.odd.now c.args.x c.product-y.ensures.0
+    c.evaluate-level.ensures.0 c.evaluate-slope.ensures.0 c.product.ensures.0)

@@ -1,0 +1,26 @@
+-- `add_each` meets its contract. The loop's invariant: what is passed is stored, and the rest is as it was.
+use mathlib.Core.Path.{◌≡◌, refl}
+use Prim.Native.Nat.{◌-◌}
+use native.Mathlib.Omega.{arith}
+use lib.ListN.{length}
+use borrow.Author.Rules.{rules}
+use Rattle.algebra.specs.Xor.{◌⊕◌}
+use Rattle.algebra.specs.Filling.{Filling, filling_start, filling_index, filling_turn, filling_length, filling_end}
+use Rattle.signature.specs.Inverses.{added}
+use Rattle.signature.proofs.add_each.Goals as goal
+
+pub loop-i-init : goal.loop-i-init
+loop-i-init c = (refl, filling_start (added c.args.a.now c.args.x) (length c.args.out.now) c.args.out.now refl)
+
+pub bounds-out-i : goal.bounds-out-i
+bounds-out-i c = filling_index c.loop-i.invariant.1 (omega arith)
+
+pub loop-i-preserved : goal.loop-i-preserved
+unfolding ◌⊕◌
+loop-i-preserved c = (refl, filling_turn c.loop-i.invariant.1 (omega arith) refl)
+
+pub shape_of-out : goal.shape_of-out
+shape_of-out c = filling_length c.loop-i.invariant.1
+
+pub returns : goal.returns
+returns c = filling_end c.loop-i.invariant.1 (omega arith)

@@ -1,0 +1,19 @@
+-- `is_affine` meets its contract. The loops' invariants: the rule holds at every pair passed, in the rows before i and in row i before j.
+use mathlib.Core.Path.{◌≡◌, refl, sym, ap, ◌∙◌, subst}
+use mathlib.Core.Bool.{true}
+use Prim.Native.Nat.{ℕ, ◌-◌, ◌≤◌}
+use native.Mathlib.Omega.{arith}
+use borrow.Author.Rules.{rules}
+use Rattle.algebra.specs.All.{all}
+use Rattle.algebra.specs.Xor.{◌⊕◌}
+use Rattle.signature.specs.Tests.{pair_kept, affine}
+use Rattle.algebra.specs.Lists.{entry_of}
+use Rattle.signature.proofs.Scan.{all_turn, index_below, pair_kept_lem, pair_broken}
+use Rattle.signature.proofs.is_affine.Given as goal
+
+abbrev pub invariant-loop-j : goal.invariant-loop-j
+invariant-loop-j l =
+    (l.kept ≡ true) × (l.sum ≡ entry_of l.inverses l.i ⊕ entry_of l.inverses 0) × (l.j ≤ l.n) × (all l.j (pair_kept (entry_of l.inverses) l.i) ≡ true)
+
+abbrev pub invariant-scan : goal.invariant-scan
+invariant-scan l = (l.kept ≡ true) × (l.i ≤ l.n) × (all l.i (λ k. all l.n (pair_kept (entry_of l.inverses) k)) ≡ true)

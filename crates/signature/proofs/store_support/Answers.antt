@@ -1,0 +1,8 @@
+-- `store_support` meets its contract.
+use borrow.Author.Rules.{rules}
+use Rattle.algebra.specs.Xor.{◌⊕◌}
+use Rattle.signature.proofs.store_support.Goals as goal
+
+pub returns : goal.returns
+unfolding ◌⊕◌
+returns c = c.add_each.ensures
