@@ -7,12 +7,12 @@ use Rattle.gears.proofs.lamp_number.Goals as goal
 
 pub returns-in-Dark : goal.returns-in-Dark
 unfolding lamp_number
-returns-in-Dark c = (ap lamp_number (sym c.enum_told-1.given.1), lit< tt)
+returns-in-Dark c = (ap lamp_number (sym c.in-Dark.is), lit< tt)
 
 pub returns-in-Green : goal.returns-in-Green
 unfolding lamp_number
-returns-in-Green c = (ap lamp_number (sym c.enum_told-in-Green-1.given.1), lit< tt)
+returns-in-Green c = (ap lamp_number (sym c.in-Green.is), lit< tt)
 
 pub returns-in-Amber : goal.returns-in-Amber
 unfolding lamp_number
-returns-in-Amber c = (ap lamp_number (sym c.enum_told-in-Amber-1.given.1), lit< tt)
+returns-in-Amber c = (ap lamp_number (sym c.in-Amber.is), lit< tt)

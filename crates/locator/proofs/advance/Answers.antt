@@ -25,10 +25,11 @@ leads-requires c = tt
 
 pub turn-requires : goal.turn-requires
 turn-requires c =
-    let pre = c.requires in (
-      (pre.width.0, c.product-square.ensures.1, c.discrepancy-a.ensures.1, c.discrepancy-b.ensures.1, pre.width.3, pre.width.4),
-      (pre.pair.0, pre.pair.1, chosen_first (c.leads.ensures c.args.m) c.if-leads.true),
-    )
+    let pre = c.requires in
+    record {
+      width = (pre.width.0, c.product-square.ensures.1, c.discrepancy-a.ensures.1, c.discrepancy-b.ensures.1, pre.width.3, pre.width.4);
+      pair = (pre.pair.0, pre.pair.1, chosen_first (c.leads.ensures c.args.m) c.if-leads.true);
+    }
 
 pub overflow_add-result : goal.overflow_add-result
 overflow_add-result c =
@@ -45,10 +46,11 @@ returns-then-leads c =
 
 pub turn-requires-2 : goal.turn-requires-2
 turn-requires-2 c =
-    let pre = c.requires in (
-      (pre.width.0, c.product-square.ensures.1, c.discrepancy-b.ensures.1, c.discrepancy-a.ensures.1, pre.width.4, pre.width.3),
-      (pre.pair.1, pre.pair.0, chosen_second (c.leads.ensures c.args.m) c.if-leads.false),
-    )
+    let pre = c.requires in
+    record {
+      width = (pre.width.0, c.product-square.ensures.1, c.discrepancy-b.ensures.1, c.discrepancy-a.ensures.1, pre.width.4, pre.width.3);
+      pair = (pre.pair.1, pre.pair.0, chosen_second (c.leads.ensures c.args.m) c.if-leads.false);
+    }
 
 pub returns : goal.returns
 returns c =

@@ -10,6 +10,7 @@ use Rattle.algebra.specs.Lists.{entry_of}
 use Rattle.basis.specs.Table.{lead_at, Inserted}
 use Rattle.basis.proofs.Insertion.{in_row, in_table, in_leads, Inserting, inserting_start, inserting_skip, inserting_reduce, inserting_store, inserting_end}
 use borrow.Author.Rules.{rules}
+use Rattle.basis.proofs.elimination.insert.Goals.{then-bit-eq1+else-leads-p-ne1, else-bit-eq1}
 use Rattle.basis.proofs.elimination.insert.Goals as goal
 
 pub loop-p-init : goal.loop-p-init
@@ -66,14 +67,15 @@ loop-p-preserved c =
     let bit = c.bit in (
       l.invariant.0,
       l.invariant.1,
-      ⊎_elim
-          (λ w.
-          subst (λ (x : List ℕ). Inserting c.args.n c.args.row.now l.rows l.leads x (l.p + 1)) (sym w.8)
-          (inserting_reduce l.invariant.2 test (sym bit.ensures ∙ w.0.taken) (eq-eqb (entry_of l.leads l.p) 1 w.2.left) w.5.ensures))
-          (λ w.
-          subst (λ (x : List ℕ). Inserting c.args.n c.args.row.now l.rows l.leads x (l.p + 1)) (sym w.1)
-          (inserting_skip l.invariant.2 test (λ e. w.0.left (bit.ensures ∙ e))))
-          c.if-bit-eq1.branch,
+      elim c.if-bit-eq1.branch [
+        | then-bit-eq1+else-leads-p-ne1 w ↦
+            subst (λ (x : List ℕ). Inserting c.args.n c.args.row.now l.rows l.leads x (l.p + 1)) (sym w.row-is)
+            (inserting_reduce l.invariant.2 test (sym bit.ensures ∙ w.if-bit-eq1.true)
+            (eq-eqb (entry_of l.leads l.p) 1 w.if-leads-p-ne1.false) w.reduce.ensures)
+        | else-bit-eq1 w ↦
+            subst (λ (x : List ℕ). Inserting c.args.n c.args.row.now l.rows l.leads x (l.p + 1)) (sym w.row-is)
+            (inserting_skip l.invariant.2 test (λ e. w.if-bit-eq1.false (bit.ensures ∙ e)))
+      ],
     )
 
 pub shape_of-row : goal.shape_of-row
