@@ -16,7 +16,7 @@ use shortened::{Lent, whole_code, whole_code_inverses};
 use slices::LONGEST;
 
 // Whether two codes are the same.
-#[derive(Drop)]
+#[derive(Clone, Copy)]
 pub enum Sameness {
     Same,
     Different,

@@ -25,7 +25,7 @@ use refusals::Counted;
 use slices::LONGEST;
 
 // Whether what is lent to a call has its length: what has an entry for each place, hidden or sent, and others, whose lengths the code alone tells.
-#[derive(Drop)]
+#[derive(Clone, Copy)]
 pub struct Lengths {
     pub others: bool,
     pub places: bool,

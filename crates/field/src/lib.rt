@@ -12,7 +12,7 @@ ghost use Rattle.field.specs.Answers.{element_fault, pair_fault, sum_answer, pro
 // An element of any of the fields.
 pub type Elem = u16;
 
-#[derive(Drop)]
+#[derive(Clone, Copy)]
 pub enum Answer {
     Element(Elem),
     Refused(u32),

@@ -17,14 +17,14 @@ use field::Elem;
 use slices::LONGEST;
 
 // A place in the text, and whether every inverse that was asked for before it exists.
-#[derive(Drop)]
+#[derive(Clone, Copy)]
 pub struct Cursor {
     pub at: usize,
     pub exists: bool,
 }
 
 // What an evaluator finds: the place after it, or that the text is no formula.
-#[derive(Drop)]
+#[derive(Clone, Copy)]
 pub enum Found {
     Read(Cursor),
     Nothing,

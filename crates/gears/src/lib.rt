@@ -6,7 +6,7 @@ ghost use Rattle.algebra.specs.Lists.{entry_of};
 ghost use Rattle.gears.specs.Rows.{is_row, row_bits, row_bit, row_message, gear_in, lamp_in, further_zero, is_row_message, lamp_of, lamp_number, row_of};
 
 // 01 numbers the lamps 0, 1 and 2.
-#[derive(Drop)]
+#[derive(Clone, Copy)]
 pub enum Lamp {
     Dark,
     Green,
@@ -14,7 +14,7 @@ pub enum Lamp {
 }
 
 // A gear, from neutral to the high neutral, and a lamp.
-#[derive(Drop)]
+#[derive(Clone, Copy)]
 pub struct Row {
     pub gear: u32,
     pub lamp: Lamp,

@@ -13,7 +13,7 @@ use field::internal::{is_element, is_width};
 use signature::signature_fault;
 
 // The numbers of a code. Its signature goes beside them, as a slice.
-#[derive(Drop)]
+#[derive(Clone, Copy)]
 pub struct Parameters {
     pub m: u32,
     pub n: u32,

@@ -66,14 +66,14 @@ pub const WAITING: u32 = 19;
 pub const HIDDEN: u32 = 20;
 
 // The end of a call whose result stands in lent buffers: they are written only where it is Done, but for the counts of a ride.
-#[derive(Drop)]
+#[derive(Clone, Copy)]
 pub enum Outcome {
     Done,
     Refused(u32),
 }
 
 // The end of a call that counts: message columns, or the bytes of a text at the front of its buffer.
-#[derive(Drop)]
+#[derive(Clone, Copy)]
 pub enum Counted {
     Count(u32),
     Refused(u32),

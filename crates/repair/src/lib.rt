@@ -19,7 +19,7 @@ use shortened::{Lent, sent_places, whole_code_inverses};
 use slices::LONGEST;
 
 // Either the repaired word, in the second buffer, with the number of places turned, or the number that refuses it.
-#[derive(Drop)]
+#[derive(Clone, Copy)]
 pub enum Recovery {
     Repaired(u32),
     Refused(u32),

@@ -23,7 +23,7 @@ use shortened::{Lent, sent_places, whole_code, whole_code_inverses};
 use slices::LONGEST;
 
 // What reading gives: the row, with the number of places in which the word was repaired, or the number that refuses it.
-#[derive(Drop)]
+#[derive(Clone, Copy)]
 pub enum Reading {
     Read(Row, u32),
     Refused(u32),

@@ -32,7 +32,7 @@ pub const MOST_REPAIRS: u32 = 8;
 pub const NONE: u32 = 1 << 31;
 
 // How many senders a dash listens to, and how many words it repairs in a round.
-#[derive(Drop)]
+#[derive(Clone, Copy)]
 pub struct Dash {
     pub senders: u32,
     pub repairs: u32,

@@ -27,7 +27,7 @@ use slices::{LONGEST, all_bits};
 
 // Whether the buffers lent to a call have their lengths: the words, with an entry for each sent place, and others, whose lengths the code alone
 // tells.
-#[derive(Drop)]
+#[derive(Clone, Copy)]
 pub struct Lent {
     pub others: bool,
     pub words: bool,

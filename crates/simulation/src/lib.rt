@@ -30,7 +30,7 @@ use slices::LONGEST;
 const LONGEST_RIDE: usize = 1000;
 
 // What a step ends in: the row is read as it was sent, reading refuses it, or another row is read.
-#[derive(Drop)]
+#[derive(Clone, Copy)]
 pub enum Verdict {
     Right,
     Held,

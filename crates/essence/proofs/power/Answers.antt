@@ -6,14 +6,7 @@ use native.Mathlib.Omega.{arith}
 use lib.Dec.{lit<}
 use lib.Pow.{shl_exact}
 use borrow.Author.Rules.{rules}
-use Rattle.essence.proofs.power.Statement.{statement}
-use Rattle.essence.proofs.power.Tie as tie
+use Rattle.essence.proofs.power.Goals as goal
 
-shl-result : tie.Need-overflow-shl-result
-shl-result c = search rules
-
-returns : tie.Need-returns
+pub returns : goal.returns
 returns c = shl_exact 1 c.args.e 64 (lit< tt) (omega arith) ∙ one-mul (2 ^ c.args.e)
-
-pub power-spec : {M : Type 1} → statement M
-power-spec = tie.close (tie.spec shl-result returns)

@@ -1,0 +1,43 @@
+-- `convert` meets its contract: the tests of the table tell whether the essence is independent.
+use mathlib.Core.Path.{refl, sym, ap₂, ◌∙◌}
+use mathlib.Core.Bool.{Bool, ◌&&◌}
+use native.Mathlib.Omega.{arith}
+use borrow.Author.Rules.{rules}
+use borrow.Author.Tests.{not-true, not-false}
+use Rattle.algebra.specs.Flags.{both_true}
+use Rattle.essence.proofs.Shaped.{entries_short}
+use Rattle.essence.proofs.Converting.{table_first, table_tells, table_entries, table_inverted}
+use Rattle.essence.proofs.convert.Goals as goal
+
+pub store_inverses-requires : goal.store_inverses-requires
+store_inverses-requires c =
+    let S = c.requires.0 in
+    (omega (arith, S.values, S.high), entries_short S)
+
+pub all_different-requires : goal.all_different-requires
+all_different-requires c =
+    table_first c.requires.0 (c.store_inverses.ensures c.args.m)
+
+pub returns-then-not-no_zero-all_different : goal.returns-then-not-no_zero-all_different
+returns-then-not-no_zero-all_different c =
+    let tested = ap₂ (λ (x y : Bool). x && y) c.no_zero.ensures c.all_different.ensures in
+    record {
+      value = sym (not-true _ c.if-not-no_zero-all_different.true) ∙ tested ∙ table_tells c.requires.0 (c.store_inverses.ensures c.args.m);
+      out_after = refl;
+    }
+
+pub invert-requires : goal.invert-requires
+invert-requires c =
+    let tested = both_true _ _ (not-false _ c.if-not-no_zero-all_different.false) in (
+      table_entries c.requires.0 (c.store_inverses.ensures c.args.m) c.requires.1,
+      sym c.no_zero.ensures ∙ tested.0,
+    )
+
+pub returns : goal.returns
+returns c =
+    let stored = c.store_inverses.ensures c.args.m in
+    let tested = ap₂ (λ (x y : Bool). x && y) c.no_zero.ensures c.all_different.ensures in
+    record {
+      value = sym (not-false _ c.if-not-no_zero-all_different.false) ∙ tested ∙ table_tells c.requires.0 stored;
+      out_after = table_inverted c.requires.0 stored (c.invert.auto.inverses ∙ c.requires.1) c.invert.ensures;
+    }

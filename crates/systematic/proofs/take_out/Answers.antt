@@ -1,0 +1,39 @@
+-- `take_out` meets its contract. The loop's invariant: the message begins with the entries at the free places passed, `taken` of them, and the rest
+-- of it is as it was.
+use mathlib.Core.Path.{◌≡◌, refl, sym}
+use mathlib.Core.Logic.{⊎_elim}
+use Prim.Native.Nat.{◌-◌}
+use native.Mathlib.Nat.{le_of_eq}
+use native.Mathlib.Omega.{arith}
+use lib.ListN.{length}
+use Rattle.algebra.specs.Choosing.{Choosing, choosing_start, choosing_length, choosing_index, choosing_passed_over, choosing_taken, choosing_full}
+use Rattle.algebra.specs.Lists.{entry_of}
+use Rattle.basis.specs.Table.{free_at}
+use Rattle.systematic.proofs.Places.{led, free}
+use borrow.Author.Rules.{rules}
+use Rattle.systematic.proofs.take_out.Goals as goal
+
+pub loop-p-init : goal.loop-p-init
+loop-p-init c =
+    let a = c.args in
+    (refl, choosing_start (free_at a.leads.now) (entry_of a.word.now) (length a.word.now) a.message.now (le_of_eq (sym c.requires.1)))
+
+pub bounds-message-taken : goal.bounds-message-taken
+bounds-message-taken c = choosing_index c.loop-p.invariant.1 (omega arith) (free _ _ c.if-leads-p-ne1.true)
+
+pub overflow_add-taken : goal.overflow_add-taken
+overflow_add-taken c = omega (arith, slice-write-message c, choosing_length c.loop-p.invariant.1)
+
+pub loop-p-preserved : goal.loop-p-preserved
+loop-p-preserved c =
+    let l = c.loop-p in (
+      refl,
+      ⊎_elim (λ w. choosing_taken l.invariant.1 (omega arith) (free _ _ w.0.taken) w.2 w.3)
+          (λ w. choosing_passed_over l.invariant.1 (omega arith) (led _ _ w.0.left) w.1 w.2) c.if-leads-p-ne1.branch,
+    )
+
+pub shape_of-message : goal.shape_of-message
+shape_of-message c = choosing_length c.loop-p.invariant.1
+
+pub returns : goal.returns
+returns c = choosing_full c.loop-p.invariant.1 (omega arith) c.requires.1
