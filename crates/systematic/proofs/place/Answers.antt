@@ -10,6 +10,7 @@ use Rattle.algebra.specs.Filling.{filling_index, filling_length, filling_end}
 use Rattle.basis.specs.Table.{placed_at}
 use Rattle.systematic.proofs.Places.{led, free, Placing, place_start, place_index, place_turn}
 use borrow.Author.Rules.{rules}
+use Rattle.systematic.proofs.place.Goals.{then-leads-j-eq1, else-leads-j-eq1}
 use Rattle.systematic.proofs.place.Goals as goal
 
 pub loop-j-init : goal.loop-j-init
@@ -26,15 +27,14 @@ pub bounds-word-j-else-leads-j-eq1 : goal.bounds-word-j-else-leads-j-eq1
 bounds-word-j-else-leads-j-eq1 c = filling_index c.loop-j.invariant.1.filling (omega arith)
 
 pub overflow_add-taken : goal.overflow_add-taken
-overflow_add-taken c = omega (arith, shared-slice-read-word c)
+overflow_add-taken c = omega (arith, place_index c.loop-j.invariant.1 (omega arith) c.if-leads-j-eq1.false c.requires.1)
 
 pub loop-j-preserved : goal.loop-j-preserved
 loop-j-preserved c =
     let leads = c.args.leads.now in
     let l = c.loop-j in (
       refl,
-      ⊎_elim (λ w. place_turn l.invariant.1 (omega arith) false (led leads l.j w.0.taken) w.1 w.2)
-          (λ w. place_turn l.invariant.1 (omega arith) true (free leads l.j w.0.left) w.2 w.3) c.if-leads-j-eq1.branch,
+      elim c.if-leads-j-eq1.branch [ then-leads-j-eq1 w ↦ place_turn l.invariant.1 (omega arith) false (led leads l.j w.if-leads-j-eq1.true) w.word-is w.taken-is | else-leads-j-eq1 w ↦ place_turn l.invariant.1 (omega arith) true (free leads l.j w.if-leads-j-eq1.false) w.word-is w.taken-is ],
     )
 
 pub shape_of-word : goal.shape_of-word

@@ -8,6 +8,7 @@ use lib.ListN.{length}
 use Rattle.algebra.specs.Filling.{Filling, filling_start, filling_index, filling_length, filling_end}
 use Rattle.systematic.proofs.Places.{led, free, at_free, filling_place}
 use borrow.Author.Rules.{rules}
+use Rattle.systematic.proofs.roles.Goals.{then-leads-p-eq1, else-leads-p-eq1}
 use Rattle.systematic.proofs.roles.Goals as goal
 
 pub loop-p-init : goal.loop-p-init
@@ -26,8 +27,7 @@ loop-p-preserved c =
     let leads = c.args.leads.now in
     let l = c.loop-p in (
       refl,
-      ⊎_elim (λ w. filling_place leads (λ q. 1) l.invariant.1 (omega arith) false (led leads l.p w.0.taken) w.1)
-          (λ w. filling_place leads (λ q. 1) l.invariant.1 (omega arith) true (free leads l.p w.0.left) w.1) c.if-leads-p-eq1.branch,
+      elim c.if-leads-p-eq1.branch [ then-leads-p-eq1 w ↦ filling_place leads (λ q. 1) l.invariant.1 (omega arith) false (led leads l.p w.if-leads-p-eq1.true) w.out-is | else-leads-p-eq1 w ↦ filling_place leads (λ q. 1) l.invariant.1 (omega arith) true (free leads l.p w.if-leads-p-eq1.false) w.out-is ],
     )
 
 pub shape_of-out : goal.shape_of-out

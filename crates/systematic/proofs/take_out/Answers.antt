@@ -11,6 +11,7 @@ use Rattle.algebra.specs.Lists.{entry_of}
 use Rattle.basis.specs.Table.{free_at}
 use Rattle.systematic.proofs.Places.{led, free}
 use borrow.Author.Rules.{rules}
+use Rattle.systematic.proofs.take_out.Goals.{then-leads-p-ne1, else-leads-p-ne1}
 use Rattle.systematic.proofs.take_out.Goals as goal
 
 pub loop-p-init : goal.loop-p-init
@@ -22,14 +23,13 @@ pub bounds-message-taken : goal.bounds-message-taken
 bounds-message-taken c = choosing_index c.loop-p.invariant.1 (omega arith) (free _ _ c.if-leads-p-ne1.true)
 
 pub overflow_add-taken : goal.overflow_add-taken
-overflow_add-taken c = omega (arith, slice-write-message c, choosing_length c.loop-p.invariant.1)
+overflow_add-taken c = omega (arith, choosing_index c.loop-p.invariant.1 (omega arith) (free _ _ c.if-leads-p-ne1.true), choosing_length c.loop-p.invariant.1)
 
 pub loop-p-preserved : goal.loop-p-preserved
 loop-p-preserved c =
     let l = c.loop-p in (
       refl,
-      ⊎_elim (λ w. choosing_taken l.invariant.1 (omega arith) (free _ _ w.0.taken) w.2 w.3)
-          (λ w. choosing_passed_over l.invariant.1 (omega arith) (led _ _ w.0.left) w.1 w.2) c.if-leads-p-ne1.branch,
+      elim c.if-leads-p-ne1.branch [ then-leads-p-ne1 w ↦ choosing_taken l.invariant.1 (omega arith) (free _ _ w.if-leads-p-ne1.true) w.message-is w.taken-is | else-leads-p-ne1 w ↦ choosing_passed_over l.invariant.1 (omega arith) (led _ _ w.if-leads-p-ne1.false) w.message-is w.taken-is ],
     )
 
 pub shape_of-message : goal.shape_of-message
