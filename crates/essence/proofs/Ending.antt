@@ -13,18 +13,18 @@ use Rattle.essence.specs.Choices.{dependent}
 use Rattle.essence.specs.Essence.{signature_of}
 
 module _ (m : ℕ) (v out : List ℕ) (passed : fault (shape_rules m v (length out) (length v)) ≡ 0) where
-  pub ends_refused : (r : Bool) {new : List ℕ} → r ≡ not (dependent m v) → new ≡ cond r (signature_of m (length v - 1) v) out → not r ≡ true
+  pub ends_refused : (r : Bool) {new : List ℕ} → r ≡ not (dependent m v) → new ≡ cond r (signature_of m (length v - 1) v) out → r ≡ false
       → (Refused 17 ≡ signature_answer m v out) × (new ≡ signature_after m v out)
   unfolding signature_answer signature_after signature_fault value_rules shape_rules
-  ends_refused true tested left t = absurd (true≢false (sym t))
+  ends_refused true tested left t = absurd (true≢false t)
   ends_refused false tested left t =
       let number = sym (fault_rest (shape_rules m v (length out) (length v)) _ tt passed ∙ fault_here 17 _ (sym tested)) in
       (refuse Refused _ number (λ z. omega arith), left ∙ refuse (λ k. out) _ number (λ z. omega arith))
 
-  pub ends_done : (r : Bool) {new : List ℕ} → r ≡ not (dependent m v) → new ≡ cond r (signature_of m (length v - 1) v) out → not r ≡ false
+  pub ends_done : (r : Bool) {new : List ℕ} → r ≡ not (dependent m v) → new ≡ cond r (signature_of m (length v - 1) v) out → r ≡ true
       → (Done ≡ signature_answer m v out) × (new ≡ signature_after m v out)
   unfolding signature_answer signature_after signature_fault value_rules shape_rules
-  ends_done false tested left t = absurd (true≢false t)
+  ends_done false tested left t = absurd (true≢false (sym t))
   ends_done true tested left t =
       let number = sym (fault_rest (shape_rules m v (length out) (length v)) _ tt passed ∙ fault_past 17 _ (sym tested) fault_empty) in
       (accept Refused _ number refl, left ∙ accept (λ k. out) _ number refl)

@@ -22,13 +22,13 @@ pub returns-then-not-no_zero-all_different : goal.returns-then-not-no_zero-all_d
 returns-then-not-no_zero-all_different c =
     let tested = ap₂ (λ (x y : Bool). x && y) c.no_zero.ensures c.all_different.ensures in
     record {
-      value = sym (not-true _ c.if-not-no_zero-all_different.true) ∙ tested ∙ table_tells c.requires.0 (c.store_inverses.ensures c.args.m);
+      value = sym (c.if-not-no_zero-all_different.true) ∙ tested ∙ table_tells c.requires.0 (c.store_inverses.ensures c.args.m);
       out_after = refl;
     }
 
 pub invert-requires : goal.invert-requires
 invert-requires c =
-    let tested = both_true _ _ (not-false _ c.if-not-no_zero-all_different.false) in (
+    let tested = both_true _ _ (c.if-not-no_zero-all_different.false) in (
       table_entries c.requires.0 (c.store_inverses.ensures c.args.m) c.requires.1,
       sym c.no_zero.ensures ∙ tested.0,
     )
@@ -38,6 +38,6 @@ returns c =
     let stored = c.store_inverses.ensures c.args.m in
     let tested = ap₂ (λ (x y : Bool). x && y) c.no_zero.ensures c.all_different.ensures in
     record {
-      value = sym (not-false _ c.if-not-no_zero-all_different.false) ∙ tested ∙ table_tells c.requires.0 stored;
+      value = sym (c.if-not-no_zero-all_different.false) ∙ tested ∙ table_tells c.requires.0 stored;
       out_after = table_inverted c.requires.0 stored (c.invert.auto.inverses ∙ c.requires.1) c.invert.ensures;
     }

@@ -19,29 +19,17 @@ use Rattle.essence.proofs.signature.Goals as goal
 abbrev zeros : List ℕ
 zeros = replicate longest 0
 
--- the place where 1 to 3 have passed
-module _ (c : tie.Else1) where
-  abbrev start : tie.Start
-  start = c.before.before.before.before
+-- where 1 to 3 have passed
+module _ (m : ℕ) (v out : List ℕ) {number : ℕ} (tested : number ≡ fault (shape_rules m v (length out) (length v))) (none : number ≡ 0) where
+  passed : fault (shape_rules m v (length out) (length v)) ≡ 0
+  passed = sym tested ∙ none
 
-  abbrev v : List ℕ
-  v = start.args.essence.now
+  sizes : Shape m v (length out) (length v)
+  sizes = shaped m v (length out) (length v) passed
 
-  abbrev n : ℕ
-  n = length start.args.out.now
-
-  abbrev rules : List Rule
-  rules = shape_rules start.args.m v n (length v)
-
-  passed : fault rules ≡ 0
-  passed = sym c.before.shape-fault.ensures ∙ c.if1.false
-
-  sizes : Shape start.args.m v n (length v)
-  sizes = shaped start.args.m v n (length v) passed
-
-  -- the part has n entries
-  lent : length (take n zeros) ≡ n
-  lent = length-take-le n zeros (entries_short sizes)
+  -- the part has as many entries as the buffer
+  lent : length (take (length out) zeros) ≡ length out
+  lent = length-take-le (length out) zeros (entries_short sizes)
 
 pub returns-then-number-ne0 : goal.returns-then-number-ne0
 unfolding signature_answer signature_after signature_fault value_rules
@@ -55,21 +43,31 @@ returns-then-number-ne0 c =
     }
 
 pub slice_bounds-inverses-end : goal.slice_bounds-inverses-end
-slice_bounds-inverses-end c = entries_short (sizes c)
+slice_bounds-inverses-end c = entries_short (sizes c.args.m c.args.essence.now c.args.out.now c.shape_fault-number.ensures c.if-number-ne0.false)
 
 pub slice_bounds-convert-end : goal.slice_bounds-convert-end
-slice_bounds-convert-end c = sym (lent c.before)
+slice_bounds-convert-end c = sym (lent c.args.m c.args.essence.now c.args.out.now c.shape_fault-number.ensures c.if-number-ne0.false)
 
 pub convert-requires : goal.convert-requires
 convert-requires c =
-    (subst (λ (k : ℕ). Shape (start d).args.m (v d) k (length (v d))) (sym (lent d)) (sizes d), sym (lent d))
+    let m = c.args.m in
+    let v = c.args.essence.now in
+    let out = c.args.out.now in
+    let tested = c.shape_fault-number.ensures in
+    let none = c.if-number-ne0.false in
+    let long = sym (lent m v out tested none) in
+    (subst (λ (k : ℕ). Shape m v k (length v)) long (sizes m v out tested none), long)
 
 pub returns-then-not-convert : goal.returns-then-not-convert
 returns-then-not-convert c =
     let call = c.convert in
-    ends_refused (start d).args.m (v d) (start d).args.out.now (passed d) call.result call.ensures.value call.ensures.out_after c.if-not-convert.true
+    let none = passed c.args.m c.args.essence.now c.args.out.now c.shape_fault-number.ensures c.if-number-ne0.false in
+    let ends = ends_refused c.args.m c.args.essence.now c.args.out.now none call.result call.ensures.value call.ensures.out_after c.if-not-convert.true in
+    record { value = ends.0; out_after = ends.1 }
 
 pub returns : goal.returns
 returns c =
     let call = c.convert in
-    ends_done (start d).args.m (v d) (start d).args.out.now (passed d) call.result call.ensures.value call.ensures.out_after c.if-not-convert.false
+    let none = passed c.args.m c.args.essence.now c.args.out.now c.shape_fault-number.ensures c.if-number-ne0.false in
+    let ends = ends_done c.args.m c.args.essence.now c.args.out.now none call.result call.ensures.value call.ensures.out_after c.if-not-convert.false in
+    record { value = ends.0; out_after = ends.1 }
