@@ -2,7 +2,7 @@
 -- call on halves asks, that the last stage is the product of the whole, and the count.
 use mathlib.Core.Path.{◌≡◌, refl, sym, ap, ap₂, ◌∙◌, subst}
 use mathlib.Core.List.{List, ◌++◌}
-use Prim.Native.Nat.{ℕ, zero, suc, ◌+◌ as ◌+ℕ◌, ◌-◌, ◌/◌, ◌^◌, ◌<◌, ◌≤◌}
+use Prim.Native.Nat.{ℕ, zero, suc, ◌+◌ as ◌+ℕ◌, ◌-◌, ◌*◌, ◌/◌, ◌^◌, ◌<◌, ◌≤◌}
 use native.Mathlib.Nat.{two-pow-succ}
 use native.Mathlib.Omega.{arith}
 use lib.Pow.{pow_pos}
@@ -20,7 +20,7 @@ use Rattle.dyadic.specs.Callers.{Factors}
 use Rattle.dyadic.specs.Folded.{folded}
 use Rattle.dyadic.specs.Count.{Counted}
 use Rattle.dyadic.specs.CountLaws.{counted_halves, counted_bound}
-use Rattle.dyadic.proofs.Halving.{low, high, Parts, parts_start, parts_low, parts_high, parts_length, put_high, put_folded}
+use Rattle.dyadic.proofs.Halving.{low, high, Parts, parts_start, parts_low, parts_high, parts_length, low_long, high_long, put_high, put_folded}
 use Rattle.dyadic.proofs.Halving.{Factor, factor_start, low_kept, high_kept, factor_folded}
 
 -- a width, and blocks of s elements that go by halves of h
@@ -168,6 +168,29 @@ stage_start {m} {h} {a} {b} {out} f k =
 
 -- ---- the steps
 
+-- what a call promises on the factors x and y into the buffer z: these become l, r and o, and n is its count
+abbrev pub Made : ℕ → List ℕ → List ℕ → List ℕ → List ℕ → List ℕ → List ℕ → ℕ → Type 0
+Made m x y z l r o n =
+    record {
+      out_after : o ≡ block_sum (gf m) z (block_product (gf m) x y);
+      a_unchanged : (l ≡ x) × (r ≡ y);
+      counted : Counted (length x) n;
+    }
+
+-- what folding promises of one list, and of both factors
+abbrev pub Once : ℕ → List ℕ → List ℕ → Type 0
+Once h x y = (m : ℕ) → y ≡ folded (gf m) h x
+
+abbrev pub Doubled : ℕ → List ℕ → List ℕ → List ℕ → List ℕ → Type 0
+Doubled h a b x y = record { by_index : Once h a x; by_index_2 : Once h b y }
+
+-- the list x with its low half, or its high half, come back as l
+abbrev pub low_back : ℕ → List ℕ → List ℕ → List ℕ
+low_back h x l = l ++ drop h x
+
+abbrev pub high_back : ℕ → ℕ → List ℕ → List ℕ → List ℕ
+high_back h s x l = low h x ++ (l ++ drop (s - h) (drop h x))
+
 module _ {m h s : ℕ} (k : Halves m h s) {A B C D L H a b out : List ℕ} (S : Stage m h A B C D L H a b out) where
   -- what a call on the halves X and Y is given, into the high half of the buffer
   called : {t : ℕ} → s ≡ t → {x y X Y : List ℕ} → x ≡ X → length X ≡ h → Elements m X → y ≡ Y → length Y ≡ h → Elements m Y
@@ -201,42 +224,42 @@ module _ {m h s : ℕ} (k : Halves m h s) {A B C D L H a b out : List ℕ} (S : 
 
   -- the buffer after a call on the halves X and Y
   grown : {x y X Y o : List ℕ} → x ≡ X → y ≡ Y → o ≡ block_sum (gf m) (high h s out) (block_product (gf m) x y)
-      → Parts h L (block_sum (gf m) H (block_product (gf m) X Y)) (low h out ++ (o ++ drop (s - h) (drop h out)))
+      → Parts h L (block_sum (gf m) H (block_product (gf m) X Y)) (high_back h s out o)
   grown {x} {y} {X} {Y} ex ey e =
       put_high S.of_out k.twice
       (e ∙ ap₂ (block_sum (gf m)) (parts_high S.of_out k.twice) (ap₂ (block_product (gf m)) ex ey))
       (length_sum (gf m) H (block_product (gf m) X Y) ∙ S.of_out.size_upper)
 
-  -- what a call on the low halves promises, or on the high ones; X is its count
-  pub low_added : {l r o : List ℕ} {X : Type 0}
-      → (o ≡ block_sum (gf m) (high h s out) (block_product (gf m) (low h a) (low h b))) × (((l ≡ low h a) × (r ≡ low h b)) × X)
-      → Stage m h A B C D L (block_sum (gf m) H (block_product (gf m) A C)) (l ++ drop h a) (r ++ drop h b)
-      (low h out ++ (o ++ drop (s - h) (drop h out)))
-  low_added (e, ((el, er), _)) =
+  -- after a call on the low halves, or on the high ones
+  pub low_added : {l r o : List ℕ} {n : ℕ} → Made m (low h a) (low h b) (high h s out) l r o n
+      → Stage m h A B C D L (block_sum (gf m) H (block_product (gf m) A C)) (low_back h a l) (low_back h b r) (high_back h s out o)
+  low_added q =
       record {
-        of_a = low_kept S.of_a el;
-        of_b = low_kept S.of_b er;
-        of_out = grown (parts_low S.of_a.parts) (parts_low S.of_b.parts) e;
+        of_a = low_kept S.of_a q.a_unchanged.0;
+        of_b = low_kept S.of_b q.a_unchanged.1;
+        of_out = grown (parts_low S.of_a.parts) (parts_low S.of_b.parts) q.out_after;
       }
 
-  pub high_added : {l r o : List ℕ} {X : Type 0}
-      → (o ≡ block_sum (gf m) (high h s out) (block_product (gf m) (high h s a) (high h s b))) × (((l ≡ high h s a) × (r ≡ high h s b)) × X)
-      → Stage m h A B C D L (block_sum (gf m) H (block_product (gf m) B D)) (low h a ++ (l ++ drop (s - h) (drop h a)))
-      (low h b ++ (r ++ drop (s - h) (drop h b))) (low h out ++ (o ++ drop (s - h) (drop h out)))
-  high_added (e, ((el, er), _)) =
+  pub high_added : {l r o : List ℕ} {n : ℕ} → Made m (high h s a) (high h s b) (high h s out) l r o n
+      → Stage m h A B C D L (block_sum (gf m) H (block_product (gf m) B D)) (high_back h s a l) (high_back h s b r) (high_back h s out o)
+  high_added q =
       record {
-        of_a = high_kept S.of_a k.twice el;
-        of_b = high_kept S.of_b k.twice er;
-        of_out = grown (parts_high S.of_a.parts k.twice) (parts_high S.of_b.parts k.twice) e;
+        of_a = high_kept S.of_a k.twice q.a_unchanged.0;
+        of_b = high_kept S.of_b k.twice q.a_unchanged.1;
+        of_out = grown (parts_high S.of_a.parts k.twice) (parts_high S.of_b.parts k.twice) q.out_after;
       }
 
-  pub buffer_folded : {y : List ℕ} → y ≡ folded (gf m) h out → Stage m h A B C D (block_sum (gf m) L H) H a b y
-  buffer_folded e = record { of_a = S.of_a; of_b = S.of_b; of_out = put_folded S.of_out m e }
+  pub buffer_folded : {y : List ℕ} → Once h out y → Stage m h A B C D (block_sum (gf m) L H) H a b y
+  buffer_folded e = record { of_a = S.of_a; of_b = S.of_b; of_out = put_folded S.of_out m (e m) }
 
-  pub factors_folded : {x y : List ℕ} → x ≡ folded (gf m) h a → y ≡ folded (gf m) h b
+  pub factors_folded : {x y : List ℕ} → Doubled h a b x y
       → Stage m h (block_sum (gf m) A B) B (block_sum (gf m) C D) D L H x y out
-  factors_folded ex ey =
-      record { of_a = factor_folded S.of_a k.width ex; of_b = factor_folded S.of_b k.width ey; of_out = S.of_out }
+  factors_folded q =
+      record {
+        of_a = factor_folded S.of_a k.width (q.by_index m);
+        of_b = factor_folded S.of_b k.width (q.by_index_2 m);
+        of_out = S.of_out;
+      }
 
 -- ---- the count
 
@@ -248,3 +271,94 @@ counted_fits {m} {h} {s} {n} k = counted_bound h n k.log k.half k.short
 
 pub counted_whole : {m h s x y z : ℕ} → Halves m h s → Counted h x → Counted h y → Counted h z → Counted s (x +ℕ y +ℕ z)
 counted_whole {m} {h} {s} {x} {y} {z} k cx cy cz e q = counted_halves h x y z cx cy cz e (sym k.twice ∙ q)
+
+-- ---- the run: each step's promise, in the order of the calls, and the stage after it
+
+module _ {m : ℕ} {a b out : List ℕ} (f : Factors m a b out) (ne : length a ≡ 1 → ⊥) where
+  abbrev s : ℕ
+  s = length a
+
+  abbrev half : ℕ
+  half = s / 2
+
+  pub shape : Halves m half s
+  shape = halves f ne
+
+  pub start : Start m a b out a b out
+  start = stage_start f shape
+
+  -- the high half of the buffer added to the low one
+  module _ {out1 : List ℕ} (q1 : Once half out out1) where
+    pub opened : Opened m a b out a b out1
+    opened = buffer_folded shape start q1
+
+    -- AC added
+    module _ {l2 r2 o2 : List ℕ} {n2 : ℕ} (q2 : Made m (low half a) (low half b) (high half s out1) l2 r2 o2 n2) where
+      abbrev a2 : List ℕ
+      a2 = low_back half a l2
+
+      abbrev b2 : List ℕ
+      b2 = low_back half b r2
+
+      abbrev out2 : List ℕ
+      out2 = high_back half s out1 o2
+
+      pub first_added : FirstAdded m a b out a2 b2 out2
+      first_added = low_added shape opened q2
+
+      first_count : Counted half n2
+      first_count = counted_at (low_long opened.of_a.parts) q2.counted
+
+      -- BD added
+      module _ {l3 r3 o3 : List ℕ} {n3 : ℕ} (q3 : Made m (high half s a2) (high half s b2) (high half s out2) l3 r3 o3 n3) where
+        abbrev a3 : List ℕ
+        a3 = high_back half s a2 l3
+
+        abbrev b3 : List ℕ
+        b3 = high_back half s b2 r3
+
+        abbrev out3 : List ℕ
+        out3 = high_back half s out2 o3
+
+        pub second_added : SecondAdded m a b out a3 b3 out3
+        second_added = high_added shape first_added q3
+
+        second_count : Counted half n3
+        second_count = counted_at (high_long first_added.of_a.parts shape.twice) q3.counted
+
+        -- the high half added once more
+        module _ {out4 : List ℕ} (q4 : Once half out3 out4) where
+          pub closed : Closed m a b out a3 b3 out4
+          closed = buffer_folded shape second_added q4
+
+          -- the sums A + B and C + D made
+          module _ {a5 b5 : List ℕ} (q5 : Doubled half a3 b3 a5 b5) where
+            pub summed : Summed m a b out a5 b5 out4
+            summed = factors_folded shape closed q5
+
+            -- (A + B)(C + D) added
+            module _ {l6 r6 o6 : List ℕ} {n6 : ℕ} (q6 : Made m (low half a5) (low half b5) (high half s out4) l6 r6 o6 n6) where
+              pub third_added : ThirdAdded m a b out (low_back half a5 l6) (low_back half b5 r6) (high_back half s out4 o6)
+              third_added = low_added shape summed q6
+
+              third_count : Counted half n6
+              third_count = counted_at (low_long summed.of_a.parts) q6.counted
+
+              pub run_counted : Counted s (n2 +ℕ n3 +ℕ n6)
+              run_counted = counted_whole shape first_count second_count third_count
+
+              -- so that the counts fit a machine word
+              pub run_fits : n2 +ℕ n3 +ℕ n6 ≤ 3 * 3 ^ longest_log
+              run_fits =
+                  omega (arith, counted_fits shape first_count, counted_fits shape second_count, counted_fits shape third_count)
+
+              -- the sums undone
+              module _ {a7 b7 : List ℕ} (q7 : Doubled half (low_back half a5 l6) (low_back half b5 r6) a7 b7) where
+                last : Last m a b out a7 b7 (high_back half s out4 o6)
+                last = factors_folded shape third_added q7
+
+                pub run_made : high_back half s out4 o6 ≡ block_sum (gf m) out (block_product (gf m) a b)
+                run_made = product_made m a b out shape start last
+
+                pub run_back : (a7 ≡ a) × (b7 ≡ b)
+                run_back = factors_back m a b out shape start last

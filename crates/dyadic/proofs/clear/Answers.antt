@@ -1,9 +1,8 @@
 -- `clear` meets its contract: the loop fills the buffer with zeros.
 use mathlib.Core.Path.{refl}
-use Prim.Native.Nat.{ℕ, ◌-◌}
+use Prim.Native.Nat.{ℕ}
 use lib.ListN.{length}
-use borrow.Author.Rules.{rules}
-use Rattle.algebra.specs.Filling.{Filling, filling_start, filling_length, filling_index, filling_turn, filling_end}
+use Rattle.algebra.specs.Filling.{filling_start, filling_length, filling_index, filling_turn, filling_end}
 use Rattle.dyadic.proofs.clear.Goals as goal
 
 pub loop-i-init : goal.loop-i-init

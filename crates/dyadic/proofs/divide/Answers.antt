@@ -1,10 +1,7 @@
 -- `divide` meets its contract: the loop fills the buffer with the quotients of entries.
 use mathlib.Core.Path.{ap, ◌∙◌}
-use mathlib.Core.List.{List}
-use Prim.Native.Nat.{ℕ, ◌-◌}
 use lib.ListN.{length, get_or}
-use borrow.Author.Rules.{rules}
-use Rattle.algebra.specs.Filling.{Filling, filling_start, filling_length, filling_index, filling_turn, filling_end}
+use Rattle.algebra.specs.Filling.{filling_start, filling_length, filling_index, filling_turn, filling_end}
 use Rattle.field.specs.Gf.{gf}
 use Rattle.dyadic.specs.Block.{quotient}
 use Rattle.dyadic.proofs.divide.Invariants.{quotients}

@@ -1,12 +1,9 @@
 -- `divide` meets its contract: the loop fills the buffer with the quotients of entries.
-use mathlib.Core.Path.{ap, ◌∙◌}
 use mathlib.Core.List.{List}
-use Prim.Native.Nat.{ℕ, ◌-◌}
+use Prim.Native.Nat.{ℕ}
 use lib.ListN.{length, get_or}
-use borrow.Author.Rules.{rules}
-use Rattle.algebra.specs.Filling.{Filling, filling_start, filling_length, filling_index, filling_turn, filling_end}
+use Rattle.algebra.specs.Filling.{Filling}
 use Rattle.field.specs.Gf.{gf}
-use Rattle.dyadic.specs.Block.{quotient}
 use Rattle.dyadic.proofs.divide.Given as goal
 
 abbrev pub quotients : ℕ → List ℕ → ℕ → ℕ → ℕ

@@ -1,10 +1,7 @@
 -- `fold` meets its contract: the loop adds entry by entry, and what it adds is not yet written to.
-use Prim.Native.Nat.{ℕ, ◌-◌}
 use native.Mathlib.Omega.{arith}
-use lib.ListN.{length}
-use borrow.Author.Rules.{rules}
 use Rattle.algebra.specs.Xor.{◌⊕◌}
-use Rattle.dyadic.proofs.Folding.{Folding, folding_start, folding_length, folding_turn, folding_end}
+use Rattle.dyadic.proofs.Folding.{folding_start, folding_length, folding_turn, folding_end}
 use Rattle.dyadic.proofs.fold.Goals as goal
 
 pub loop-i-init : goal.loop-i-init

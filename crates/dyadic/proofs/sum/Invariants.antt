@@ -1,12 +1,9 @@
 -- `sum` meets its contract: the loop fills the buffer with the sums of entries.
-use mathlib.Core.Path.{refl}
 use mathlib.Core.List.{List}
-use Prim.Native.Nat.{ℕ, ◌-◌}
+use Prim.Native.Nat.{ℕ}
 use lib.ListN.{length, get_or}
-use borrow.Author.Rules.{rules}
-use Rattle.algebra.specs.Filling.{Filling, filling_start, filling_length, filling_index, filling_turn, filling_end}
+use Rattle.algebra.specs.Filling.{Filling}
 use Rattle.algebra.specs.Xor.{◌⊕◌}
-use Rattle.dyadic.specs.Block.{block_sum}
 use Rattle.dyadic.proofs.sum.Given as goal
 
 abbrev pub sums : List ℕ → List ℕ → ℕ → ℕ

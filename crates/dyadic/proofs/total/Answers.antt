@@ -1,10 +1,9 @@
 -- `total` meets its contract. The loop's invariant: the sum of the entries passed.
 use mathlib.Core.Path.{◌≡◌, refl, sym, ap, ◌∙◌}
-use Prim.Native.Nat.{ℕ, ◌-◌, ◌≤◌}
+use Prim.Native.Nat.{ℕ}
 use native.Mathlib.Numerals.{add-one}
 use native.Mathlib.Omega.{arith}
 use lib.ListN.{length, get_or}
-use borrow.Author.Rules.{rules}
 use Rattle.algebra.specs.Lists.{entry}
 use Rattle.algebra.specs.Sum.{sum}
 use Rattle.algebra.specs.Xor.{◌⊕◌}

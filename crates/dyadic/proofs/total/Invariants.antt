@@ -1,15 +1,10 @@
 -- `total` meets its contract. The loop's invariant: the sum of the entries passed.
-use mathlib.Core.Path.{◌≡◌, refl, sym, ap, ◌∙◌}
-use Prim.Native.Nat.{ℕ, ◌-◌, ◌≤◌}
-use native.Mathlib.Numerals.{add-one}
-use native.Mathlib.Omega.{arith}
-use lib.ListN.{length, get_or}
-use borrow.Author.Rules.{rules}
+use mathlib.Core.Path.{◌≡◌}
+use Prim.Native.Nat.{ℕ, ◌≤◌}
+use lib.ListN.{length}
 use Rattle.algebra.specs.Lists.{entry}
 use Rattle.algebra.specs.Sum.{sum}
-use Rattle.algebra.specs.Xor.{◌⊕◌}
 use Rattle.field.specs.Gf.{gf}
-use Rattle.dyadic.specs.Block.{total}
 use Rattle.dyadic.proofs.total.Given as goal
 
 abbrev pub invariant-loop-i : goal.invariant-loop-i
