@@ -9,8 +9,7 @@ use lib.Dec.{eqb}
 use borrow.Author.Tests.{eqb-true, eq-eqb, ne_eqb}
 use Rattle.algebra.specs.Flags.{both_true, both_hold, refuted}
 use borrow.Author.Rules.{rules}
-use Rattle.columns.proofs.is_parts_length.Statement.{statement}
-use Rattle.columns.proofs.is_parts_length.Tie as tie
+use Rattle.columns.proofs.is_parts_length.Goals as goal
 
 -- empty parts make an empty whole
 empty-parts : (long parts each : ℕ) → each ≡ 0 → eqb long 0 ≡ eqb long (parts * each)
@@ -35,17 +34,8 @@ divided long parts each p = decided (ℕ_discrete long (parts * each))
         ∙ add-zero (parts * each)))
         ∙ sym (ne_eqb long (parts * each) ne)
 
-returns : tie.Need-returns
-returns c = empty-parts c.before.args.long c.before.args.parts c.before.args.each c.if1.true
+pub returns-then-each-eq0 : goal.returns-then-each-eq0
+returns-then-each-eq0 c = empty-parts c.args.long c.args.parts c.args.each c.if-each-eq0.true
 
-div-result : tie.Need-nonzero-div-result
-div-result c = search rules
-
-rem-result : tie.Need-nonzero-rem-result
-rem-result c = search rules
-
-returns-2 : tie.Need-returns-2
-returns-2 c = divided c.before.args.long c.before.args.parts c.before.args.each (omega arith)
-
-pub is-parts-length-spec : {M : Type 1} → statement M
-is-parts-length-spec = tie.close (tie.spec returns div-result rem-result returns-2)
+pub returns : goal.returns
+returns c = divided c.args.long c.args.parts c.args.each (omega arith)
