@@ -61,7 +61,7 @@ overflow_cast-result c =
 pub returns : goal.returns
 returns c =
     let a = c.args in
-    let (number, inverted) = c.code_fault_inverses-number.ensures in
+    let record { value = number; inverted = inverted } = c.code_fault_inverses-number.ensures in
     let none = c.if-number-ne0.false in
     record {
       listed = selection_listed a.c a.h.now a.blocks.now a.shifts.now a.lent.others a.lent.places number none

@@ -24,7 +24,7 @@ number_columns-requires c =
 pub returns : goal.returns
 returns c =
     let a = c.args in
-    let (number, inverted) = c.code_fault_inverses-number.ensures in
+    let record { value = number; inverted = inverted } = c.code_fault_inverses-number.ensures in
     let none = c.if-number-ne0.false in
     record {
       listed = whole_listed a.c a.h.now a.lent.others a.lent.places _ number none c.number_columns.ensures;
