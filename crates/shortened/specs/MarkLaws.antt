@@ -54,17 +54,17 @@ module _ (hidden : List ℕ) where
   unfolding full_word
   length_full w = length-tabulate (length hidden) (λ p. cond (is_sent hidden p) (entry_of w (count p (is_sent hidden))) 0)
 
-  pub full_at : (w : List ℕ) (p : ℕ) → p < length hidden
+  pub full_at_lem : (w : List ℕ) (p : ℕ) → p < length hidden
       → entry_of (full_word hidden w) p ≡ cond (is_sent hidden p) (entry_of w (count p (is_sent hidden))) 0
   unfolding full_word
-  full_at w p l = get_d_tabulate (length hidden) (λ p. cond (is_sent hidden p) (entry_of w (count p (is_sent hidden))) 0) p 0 l
+  full_at_lem w p l = get_d_tabulate (length hidden) (λ p. cond (is_sent hidden p) (entry_of w (count p (is_sent hidden))) 0) p 0 l
 
   pub full_sent : (w : List ℕ) (p : ℕ) → p < length hidden → is_sent hidden p ≡ true
       → entry_of (full_word hidden w) p ≡ entry_of w (count p (is_sent hidden))
-  full_sent w p l t = full_at w p l ∙ ap (λ (b : Bool). cond b (entry_of w (count p (is_sent hidden))) 0) t
+  full_sent w p l t = full_at_lem w p l ∙ ap (λ (b : Bool). cond b (entry_of w (count p (is_sent hidden))) 0) t
 
   pub full_hidden : (w : List ℕ) (p : ℕ) → p < length hidden → is_sent hidden p ≡ false → entry_of (full_word hidden w) p ≡ 0
-  full_hidden w p l f = full_at w p l ∙ ap (λ (b : Bool). cond b (entry_of w (count p (is_sent hidden))) 0) f
+  full_hidden w p l f = full_at_lem w p l ∙ ap (λ (b : Bool). cond b (entry_of w (count p (is_sent hidden))) 0) f
 
   -- it gives the word that is sent
   pub sent_of_full : (w : List ℕ) → length w ≡ sent_count hidden → sent_of hidden (full_word hidden w) ≡ w

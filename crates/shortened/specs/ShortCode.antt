@@ -32,7 +32,7 @@ use Rattle.parity.specs.Systematic.{Basis, sum_is_free}
 use Rattle.parity.specs.Word.{held, parity_at, syndrome_at, syndrome_of, is_code_word}
 use Rattle.shortened.specs.Fits.{Hides}
 use Rattle.shortened.specs.Marks.{is_sent, sent_count, sent_of, full_word, sent_dimension}
-use Rattle.shortened.specs.MarkLaws.{length_sent, sent_below, sent_entry, From, from, full_at, full_sent}
+use Rattle.shortened.specs.MarkLaws.{length_sent, sent_below, sent_entry, From, from, full_at_lem, full_sent}
 
 -- ---- words
 
@@ -67,7 +67,7 @@ module _ (c : Parameters) (h cols hidden : List ℕ) (W : Width c.m) (long : len
       ap (λ (n : ℕ). sum (gf c.m) n (λ j. held (entry_of w j) (parity_at c h i (entry_of (sent_of hidden cols) j)))) (length_sent hidden cols)
       ∙ short_sum W hidden (entry_of w) (λ j. parity_at c h i (entry_of (sent_of hidden cols) j)) (λ p. parity_at c h i (entry_of cols p))
       (λ p l t. ap (parity_at c h i) (sent_entry hidden cols p l t))
-      ∙ sum_cong (gf c.m) (length hidden) (λ p l. ap (λ (b : ℕ). held b (parity_at c h i (entry_of cols p))) (sym (full_at hidden w p l)))
+      ∙ sum_cong (gf c.m) (length hidden) (λ p l. ap (λ (b : ℕ). held b (parity_at c h i (entry_of cols p))) (sym (full_at_lem hidden w p l)))
       ∙ ap (λ (n : ℕ). sum (gf c.m) n (λ p. held (entry_of (full_word hidden w) p) (parity_at c h i (entry_of cols p)))) long
 
   -- the syndrome of a word is that of the word of all places
