@@ -14,62 +14,36 @@ use Rattle.columns.specs.ListedLaws.{listed_refuses, listed_places, listed_accep
 use Rattle.shortened.specs.Marks.{sent_dimension, mark_rules}
 use Rattle.words.specs.Answers.{roles_rules, roles_fault, roles_answer, roles_after}
 use borrow.Author.Rules.{rules}
-use Rattle.words.proofs.begun.roles.Statement.{statement}
-use Rattle.words.proofs.begun.roles.Tie as tie
+use Rattle.words.proofs.begun.roles.Goals as goal
 
-enum-known-found : tie.Need-enum-known-found
-enum-known-found c = search rules
-
-enum-known-found-2 : tie.Need-enum-known-found-2
-enum-known-found-2 c = search rules
-
-cast-short-roles : tie.Need-overflow-cast-short-roles
-cast-short-roles c = search rules
-
-slice-aggregate-short-roles : tie.Need-slice-aggregate-short-roles
-slice-aggregate-short-roles c =
-    let e = c.before.before.found2.given.1 in
-    let listed = c.before.before.before.before.before.before.before.before.requires.listed in
+pub slice_bounds-short_roles-end : goal.slice_bounds-short_roles-end
+slice_bounds-short_roles-end c =
+    let e = c.in-Count.is in
+    let listed = c.requires.listed in
     listed_long listed e (listed_places listed e)
 
-short-roles-requires : tie.Need-short-roles-requires
-short-roles-requires c κs =
-    let e = c.before.before.before.found2.given.1 in
-    let listed = c.before.before.before.before.before.before.before.before.before.requires.listed in
+pub short_roles-requires : goal.short_roles-requires
+short_roles-requires c =
+    let e = c.in-Count.is in
+    let listed = c.requires.listed in
     let (marks, out) = both_true _ _ (listed_accepted listed e).1 in
     (listed_columns listed e, listed_long listed e (eqb-true _ _ marks), listed_long listed e (eqb-true _ _ out))
 
-returns : tie.Need-returns
+pub returns-in-Refused : goal.returns-in-Refused
 unfolding roles_answer roles_after roles_fault roles_rules
-returns c =
-    let out = c.before.before.before.before.before.before.before.args.out.now in
-    let e = c.before.found.given.1 in
+returns-in-Refused c =
+    let out = c.args.out.now in
+    let e = c.in-Refused.is in
     λ s listed. (listed_refuses listed e _ Refused _, listed_refuses listed e _ (λ i. out) _)
 
-same_length : tie.Need-same-length
-same_length c = search rules
-
-returns-2 : tie.Need-returns-2
+pub returns-in-Count : goal.returns-in-Count
 unfolding roles_answer roles_after roles_fault roles_rules
-returns-2 c =
-    let a = c.before.before.before.before.before.before.before.before.before.before.before.before.args in
-    let (count, roles) = c.before.before.short-roles.ensures in
-    let e = c.before.before.before.before.before.before.found2.given.1 in
+returns-in-Count c =
+    let a = c.args in
+    let record { value = count; out_after = roles } = c.short_roles.ensures in
+    let e = c.in-Count.is in
     let marks : List ℕ → List Rule = λ cols. mark_rules a.c a.h.now cols a.hidden.now true in
     λ s listed. (
       listed_passes listed e marks Refused (λ cols. Count (sent_dimension a.c a.h.now cols a.hidden.now)) count,
       listed_passes listed e marks (λ i. a.out.now) (λ cols. roles_of a.c a.h.now cols) roles,
     )
-
-pub roles-spec : {M : Type 1} → statement M
-roles-spec =
-    tie.close
-    (tie.spec
-    enum-known-found
-    enum-known-found-2
-    cast-short-roles
-    slice-aggregate-short-roles
-    short-roles-requires
-    returns
-    same_length
-    returns-2)

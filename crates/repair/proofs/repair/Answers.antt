@@ -1,0 +1,28 @@
+-- `repair` meets its contract: it begins at the whole code.
+use Rattle.shortened.specs.Begun.{both_long}
+use Rattle.shortened.specs.BegunLaws.{begun_sent}
+use Rattle.shortened.specs.Setting.{short_code}
+use borrow.Author.Rules.{rules}
+use Rattle.repair.proofs.repair.Goals as goal
+
+pub repair-requires : goal.repair-requires
+repair-requires c =
+    let a = c.args in
+    let found = c.whole_code_inverses-found.ensures in
+    record {
+      started = record {
+        at = short_code _;
+        begun = begun_sent (both_long a.received.now a.repaired.now) found.begun
+            c.sent_places-sent.ensures;
+      };
+      by_index = found.by_index;
+    }
+
+pub returns : goal.returns
+returns c =
+    let a = c.args in
+    let ended = c.repair.ensures (short_code _)
+    (begun_sent (both_long a.received.now a.repaired.now)
+    c.whole_code_inverses-found.ensures.begun
+    c.sent_places-sent.ensures) in
+    record { value = ended.0; repaired_after = ended.1 }

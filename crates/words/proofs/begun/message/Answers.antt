@@ -1,0 +1,38 @@
+-- `begun::message` meets its contract: what the beginning refused is refused, and else the columns that it numbered are those of the setting.
+use mathlib.Core.Path.{◌∙◌}
+use lib.ListN.{length}
+use borrow.Author.Tests.{eqb-true}
+use Rattle.slices.specs.Bits.{all_bits}
+use Rattle.parity.specs.Columns.{dimension, message_of}
+use Rattle.shortened.specs.BegunLaws.{begun_refuses_both, begun_places, begun_accepted, begun_columns, begun_long, begun_ends}
+use Rattle.messages.specs.MessageRules.{message_rules}
+use Rattle.words.specs.Answers.{message_fault, message_answer, message_after}
+use borrow.Author.Rules.{rules}
+use Rattle.words.proofs.begun.message.Goals as goal
+
+pub slice_bounds-message-end : goal.slice_bounds-message-end
+slice_bounds-message-end c =
+    let e = c.in-Count.is in
+    let begun = c.requires.begun in
+    begun_long begun e (begun_places begun e)
+
+pub message-requires : goal.message-requires
+message-requires c =
+    let e = c.in-Count.is in
+    let begun = c.requires.begun in
+    (begun_columns begun e, begun_long begun e (eqb-true _ _ (begun_accepted begun e).1))
+
+pub returns-in-Refused : goal.returns-in-Refused
+unfolding message_answer message_after message_fault
+returns-in-Refused c = λ s begun. begun_refuses_both begun c.in-Refused.is _ _ _
+
+pub returns-in-Count : goal.returns-in-Count
+unfolding message_answer message_after message_fault
+returns-in-Count c =
+    let a = c.args in
+    λ s begun.
+    let (answer, buffer) =
+    begun_ends begun c.in-Count.is
+    (λ cols. message_rules (dimension a.c a.h.now cols) (length a.message.now) (all_bits a.word.now))
+    (λ cols. message_of a.c a.h.now cols a.word.now) c.message.ensures in
+    (c.ended.ensures ∙ answer, buffer)

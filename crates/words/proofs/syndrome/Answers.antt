@@ -1,0 +1,24 @@
+-- `syndrome` meets its contract: it begins at the whole code.
+use lib.Dec.{eqb}
+use lib.ListN.{length}
+use Rattle.shortened.specs.BegunLaws.{begun_sent}
+use Rattle.shortened.specs.Setting.{short_code}
+use borrow.Author.Rules.{rules}
+use Rattle.words.proofs.syndrome.Goals as goal
+
+pub syndrome-requires : goal.syndrome-requires
+syndrome-requires c =
+    let a = c.args in
+    record {
+      at = short_code _;
+      begun = begun_sent (eqb (length a.word.now)) c.whole_code-found.ensures
+          c.sent_places.ensures;
+    }
+
+pub returns : goal.returns
+returns c =
+    let a = c.args in
+    let ended = c.syndrome.ensures (short_code _)
+    (begun_sent (eqb (length a.word.now)) c.whole_code-found.ensures
+    c.sent_places.ensures) in
+    record { value = ended.0; out_after = ended.1 }
