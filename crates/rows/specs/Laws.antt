@@ -88,9 +88,9 @@ module _ {c : Parameters} {h cols : List ℕ} (A : Accepted c h) (S : Selected c
   unfolding write_rules
   write_passes = fault_none (write_rules c h cols gear lamp) (le-leb row_bits k wide, (allowed, tt))
 
-  row_word : CodeWord c h cols W × (message_of c h cols W ≡ row_message k gear lamp)
+  row_word_lem : CodeWord c h cols W × (message_of c h cols W ≡ row_message k gear lamp)
   unfolding row_word
-  row_word =
+  row_word_lem =
       let (b, code, q) =
       encoding_carries c h cols A.limits.width (row_message k gear lamp) (length_message k gear lamp) (message_bits k gear lamp) in
       (record { bits = b; code = code }, q)
@@ -98,15 +98,15 @@ module _ {c : Parameters} {h cols : List ℕ} (A : Accepted c h) (S : Selected c
   -- reading a word near it
   module _ {r : List ℕ} (received : IsBits (length cols) r) (near : distance (length cols) r W ≤ c.t) where
     repairable : is_repairable c h cols r ≡ true
-    repairable = near_repairable c h cols r row_word.0.bits (Near-word c h cols r W row_word.0.code near)
+    repairable = near_repairable c h cols r row_word_lem.0.bits (Near-word c h cols r W row_word_lem.0.code near)
 
     repaired_is : repaired_of c h cols r ≡ W
     repaired_is =
-        near_unique A S received (repaired_code_word A S received repairable) row_word.0 (repaired_within A S received repairable) near
+        near_unique A S received (repaired_code_word A S received repairable) row_word_lem.0 (repaired_within A S received repairable) near
 
     carried_is : carried c h cols r ≡ row_message k gear lamp
     unfolding carried
-    carried_is = ap (message_of c h cols) repaired_is ∙ row_word.1
+    carried_is = ap (message_of c h cols) repaired_is ∙ row_word_lem.1
 
     read_passes : fault (read_rules c h cols r) ≡ 0
     unfolding read_rules word_rules
@@ -255,7 +255,7 @@ module _ {c : Parameters} {h : List ℕ} (A : Accepted c h) (s : Setting) (F : F
 
   pub written_bits : IsBits (places s) written
   written_bits =
-      subst₂ IsBits (length_columns c s) (sym written_is) (row_word A S wide gear lamp allowed).0.bits
+      subst₂ IsBits (length_columns c s) (sym written_is) (row_word_lem A S wide gear lamp allowed).0.bits
 
   -- a written row is read as it was written
   pub written_read : (repaired : List ℕ) → length repaired ≡ places s → read_answer c h s written repaired ≡ Read (row_of gear lamp) 0

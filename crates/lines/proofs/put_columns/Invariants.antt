@@ -1,0 +1,15 @@
+-- `put_columns` meets its contract. The loop's invariant: the lines of the columns passed are printed.
+use mathlib.Core.Path.{◌≡◌, refl, sym, ap, ◌∙◌}
+use Prim.Native.Nat.{ℕ, ◌+◌, ◌*◌, ◌-◌}
+use native.Mathlib.Omega.{arith}
+use lib.ListN.{length}
+use Rattle.fields.specs.Fields.{line_length}
+use Rattle.fields.proofs.Printing.{Joining, joining_start, joining_length, joining_turn, joining_end}
+use Rattle.lines.specs.Lengths.{length_columns}
+use Rattle.lines.specs.Listing.{column_line}
+use borrow.Author.Rules.{rules}
+use Rattle.lines.proofs.put_columns.Given as goal
+
+abbrev pub invariant-loop-j : goal.invariant-loop-j
+invariant-loop-j l =
+    (l.j-end ≡ length l.h) × (l.next ≡ l.at + l.j * line_length 4) × Joining (column_line l.h l.support l.roles) (length l.h) l.at l.initial.out l.out l.j

@@ -1,0 +1,13 @@
+-- `put_lines` meets its contract.
+use Rattle.lines.specs.Listing.{code_line}
+use Rattle.lines.proofs.Rows.{lines_written}
+use borrow.Author.Rules.{rules}
+use Rattle.lines.proofs.put_lines.Goals as goal
+
+pub returns : goal.returns
+unfolding code_line
+returns c =
+    let a = c.args in
+    let line = c.put_line-next.ensures in
+    lines_written a.c a.k a.h.now a.support.now a.roles.now a.out.now
+    c.requires.0.h_long c.requires.2 line.out_after line.value c.put_columns.ensures

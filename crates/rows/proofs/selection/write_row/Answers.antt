@@ -1,0 +1,24 @@
+-- `selection::write_row` meets its contract: it begins at the selection.
+use lib.Dec.{eqb}
+use lib.ListN.{length}
+use Rattle.shortened.specs.BegunLaws.{begun_sent}
+use Rattle.shortened.specs.Setting.{short_selection}
+use borrow.Author.Rules.{rules}
+use Rattle.rows.proofs.selection.write_row.Goals as goal
+
+pub write_row-requires : goal.write_row-requires
+write_row-requires c =
+    let a = c.args in
+    record {
+      at = short_selection _ _ _;
+      begun = begun_sent (eqb (length a.word.now)) c.selected_code-found.ensures
+          c.sent_places.ensures;
+    }
+
+pub returns : goal.returns
+returns c =
+    let a = c.args in
+    let ended = c.write_row.ensures (short_selection _ _ _)
+    (begun_sent (eqb (length a.word.now)) c.selected_code-found.ensures
+    c.sent_places.ensures) in
+    record { value = ended.0; word_after = ended.1 }

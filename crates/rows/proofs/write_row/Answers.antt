@@ -1,0 +1,24 @@
+-- `write_row` meets its contract: it begins at the whole code.
+use lib.Dec.{eqb}
+use lib.ListN.{length}
+use Rattle.shortened.specs.BegunLaws.{begun_sent}
+use Rattle.shortened.specs.Setting.{short_code}
+use borrow.Author.Rules.{rules}
+use Rattle.rows.proofs.write_row.Goals as goal
+
+pub write_row-requires : goal.write_row-requires
+write_row-requires c =
+    let a = c.args in
+    record {
+      at = short_code _;
+      begun = begun_sent (eqb (length a.word.now)) c.whole_code-found.ensures
+          c.sent_places.ensures;
+    }
+
+pub returns : goal.returns
+returns c =
+    let a = c.args in
+    let ended = c.write_row.ensures (short_code _)
+    (begun_sent (eqb (length a.word.now)) c.whole_code-found.ensures
+    c.sent_places.ensures) in
+    record { value = ended.0; word_after = ended.1 }
