@@ -1,0 +1,46 @@
+-- `turn` meets its contract, place by place.
+use mathlib.Core.Path.{◌≡◌, refl, ap₂}
+use mathlib.Core.Bool.{cond}
+use Prim.Native.Nat.{ℕ, zero, suc, ◌-◌, ◌<◌}
+use native.Mathlib.Omega.{arith}
+use lib.Dec.{eqb}
+use lib.ListN.{length}
+use Rattle.algebra.specs.Filling.{Filling, filling_start, filling_index, filling_turn, filling_length, filling_old, filling_end}
+use Rattle.algebra.specs.Lists.{entry_of}
+use Rattle.algebra.specs.Xor.{◌⊕◌}
+use Rattle.nearest.specs.Turned.{turned}
+use Rattle.simulation.specs.Ride.{is_marked}
+use borrow.Author.Rules.{rules}
+use Rattle.simulation.proofs.steps.turn.Goals as goal
+
+-- a mark is the bit that is added
+mark-is : (x : ℕ) → x < 2 → x ≡ cond (eqb x 1) 1 0
+mark-is zero l = refl
+mark-is (suc zero) l = refl
+mark-is (suc (suc x)) l = absurd (omega arith)
+
+pub loop-j-init : goal.loop-j-init
+loop-j-init c = (refl, filling_start _ (length c.args.word.now) c.args.word.now refl)
+
+pub bounds-word-j : goal.bounds-word-j
+bounds-word-j c = filling_index c.loop-j.invariant.1 (omega arith)
+
+pub bounds-word-j-in-loop-j : goal.bounds-word-j-in-loop-j
+bounds-word-j-in-loop-j c = filling_index c.loop-j.invariant.1 (omega arith)
+
+pub loop-j-preserved : goal.loop-j-preserved
+unfolding ◌⊕◌
+loop-j-preserved c =
+    let l = c.loop-j in
+    let F = l.invariant.1 in
+    let inside : l.j < length c.args.marks.now = omega (arith, c.requires.1) in (
+      refl,
+      filling_turn F (omega arith) (ap₂ (λ (x y : ℕ). x ⊕ y) (filling_old F l.j 0 (omega arith)) (mark-is _ (c.requires.0 l.j inside))),
+    )
+
+pub shape_of-word : goal.shape_of-word
+shape_of-word c = filling_length c.loop-j.invariant.1
+
+pub returns : goal.returns
+unfolding turned
+returns c = filling_end c.loop-j.invariant.1 (omega arith)

@@ -1,0 +1,18 @@
+-- `turn` meets its contract, place by place.
+use mathlib.Core.Path.{◌≡◌, refl, ap₂}
+use mathlib.Core.Bool.{cond}
+use Prim.Native.Nat.{ℕ, zero, suc, ◌-◌, ◌<◌}
+use native.Mathlib.Omega.{arith}
+use lib.Dec.{eqb}
+use lib.ListN.{length}
+use Rattle.algebra.specs.Filling.{Filling, filling_start, filling_index, filling_turn, filling_length, filling_old, filling_end}
+use Rattle.algebra.specs.Lists.{entry_of}
+use Rattle.algebra.specs.Xor.{◌⊕◌}
+use Rattle.nearest.specs.Turned.{turned}
+use Rattle.simulation.specs.Ride.{is_marked}
+use borrow.Author.Rules.{rules}
+use Rattle.simulation.proofs.steps.turn.Given as goal
+
+abbrev pub invariant-loop-j : goal.invariant-loop-j
+invariant-loop-j l =
+    (l.j-end ≡ length l.initial.word) × Filling (λ i. entry_of l.initial.word i ⊕ cond (is_marked l.marks i) 1 0) (length l.initial.word) l.initial.word l.word l.j

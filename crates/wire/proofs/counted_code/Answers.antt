@@ -1,0 +1,7 @@
+-- `counted_code` meets its contract, case by case.
+use Rattle.std.proofs.Common.{sym, ap, ◌∙◌, rules}
+use Rattle.wire.specs.Wire.{counted_code}
+use Rattle.wire.proofs.counted_code.Goals as goal
+
+pub returns-in-Refused : goal.returns-in-Refused
+returns-in-Refused c = c.minus.ensures ∙ ap counted_code (sym c.in-Refused.is)

@@ -1,0 +1,13 @@
+-- `reading_code` meets its contract, case by case.
+use Rattle.std.proofs.Common.{sym, ap, ◌∙◌, rules}
+use Rattle.wire.specs.Wire.{reading_code}
+use Rattle.wire.proofs.Readings.{as_read}
+use Rattle.wire.proofs.reading_code.Goals as goal
+
+pub returns-in-Read : goal.returns-in-Read
+returns-in-Read c =
+    as_read c.in-Read.is c.lamp_number.ensures.0 c.wrapping_add_u32-shown.ensures
+    c.wrapping_add_u32.ensures
+
+pub returns-in-Refused : goal.returns-in-Refused
+returns-in-Refused c = c.minus.ensures ∙ ap reading_code (sym c.in-Refused.is)
