@@ -1,13 +1,13 @@
 -- What an evaluator finds follows from what it was told: the byte at its place, and what the evaluators that it called have found.
 use mathlib.Core.Path.{◌≡◌, refl, sym, ap, subst, ◌∙◌}
 use mathlib.Core.Logic.{◌≢◌, ◌⊎◌, inl, inr}
-use mathlib.Core.Bool.{Bool, true, false, not, ◌||◌, ◌&&◌, true≢false}
+use mathlib.Core.Bool.{Bool, true, false, ◌||◌, ◌&&◌, true≢false}
 use mathlib.Core.List.{List}
 use Prim.Native.Nat.{ℕ, suc, ◌+◌, ◌-◌, ◌<◌}
 use native.Mathlib.Omega.{arith}
 use lib.Dec.{eqb, lit<}
 use lib.ListN.{length, get_or}
-use borrow.Author.Tests.{eqb-true, eq-eqb, not-true, not-false}
+use borrow.Author.Tests.{eqb-true, eq-eqb}
 use Rattle.field.specs.Gf.{Width, gf}
 use Rattle.slices.specs.Elements.{Elements}
 use Rattle.dyadic.specs.Block.{block_sum, block_product, block_inverse}
@@ -82,16 +82,16 @@ module _ {K E : Kind} {m : ℕ} {β : Lent} {k : ℕ} {text : List ℕ} {from : 
 module _ {m : ℕ} {β : Lent} {k : ℕ} {text : List ℕ} {from : Cursor} where
   -- ---- terms
 
-  pub letter_read : {n byte : ℕ} {value : List ℕ} {r : Bool} → Ready m β n → byte ≡ get_or text from.at 0 → Fetched β byte value r → not r ≡ false
+  pub letter_read : {n byte : ℕ} {value : List ℕ} {r : Bool} → Ready m β n → byte ≡ get_or text from.at 0 → Fetched β byte value r → r ≡ true
       → Held terms m β k text from (on from) value
   letter_read {byte = byte} {value} {r} ready e f t =
-      let (l, b, lent, v) = subst (LetterIs β byte value) (not-false r t) f.fetched in
+      let (l, b, lent, v) = subst (LetterIs β byte value) t f.fetched in
       held_letter m β text k from l (sym e ∙ b) lent v (subst (Elements m) (sym v) (ready.elements l))
 
-  pub letter_none : {byte : ℕ} {value new : List ℕ} {r : Bool} → byte ≡ get_or text from.at 0 → byte ≢ open_byte → Fetched β byte new r → not r ≡ true
+  pub letter_none : {byte : ℕ} {value new : List ℕ} {r : Bool} → byte ≡ get_or text from.at 0 → byte ≢ open_byte → Fetched β byte new r → r ≡ false
       → Finds terms terms m β k text from value Nothing
   letter_none {byte = byte} {new = new} {r} e ne f t =
-      record { found = no_letter m β text k from.at e ne (subst (LetterIs β byte new) (not-true r t) f.fetched) }
+      record { found = no_letter m β text k from.at e ne (subst (LetterIs β byte new) t f.fetched) }
 
   -- with the marks after it
   pub marks_read : (last : Cursor) {next to : Cursor} {value new : List ℕ} → Held terms m β k text from (on last) value → next ≡ on last

@@ -1,0 +1,25 @@
+-- `all_in_field` meets its contract, which its body says.
+use mathlib.Core.Path.{ap₂}
+use mathlib.Core.Bool.{◌&&◌}
+use Rattle.formula.specs.Answers.{every}
+use Rattle.formula.proofs.all_in_field.Goals as goal
+
+pub all_elements-requires : goal.all_elements-requires
+all_elements-requires c = c.requires
+
+pub all_elements-requires-2 : goal.all_elements-requires-2
+all_elements-requires-2 c = c.requires
+
+pub all_elements-requires-3 : goal.all_elements-requires-3
+all_elements-requires-3 c = c.requires
+
+pub all_elements-requires-4 : goal.all_elements-requires-4
+all_elements-requires-4 c = c.requires
+
+pub returns : goal.returns
+unfolding every
+returns c =
+    ap₂ ◌&&◌
+    (ap₂ ◌&&◌ (ap₂ ◌&&◌ c.all_elements.ensures c.all_elements-2.ensures)
+    c.all_elements-3.ensures)
+    c.all_elements-4.ensures
