@@ -4,18 +4,6 @@ use mathlib.Core.Bool.{◌&&◌}
 use Rattle.formula.specs.Answers.{every}
 use Rattle.formula.proofs.all_in_field.Goals as goal
 
-pub all_elements-requires : goal.all_elements-requires
-all_elements-requires c = c.requires
-
-pub all_elements-requires-2 : goal.all_elements-requires-2
-all_elements-requires-2 c = c.requires
-
-pub all_elements-requires-3 : goal.all_elements-requires-3
-all_elements-requires-3 c = c.requires
-
-pub all_elements-requires-4 : goal.all_elements-requires-4
-all_elements-requires-4 c = c.requires
-
 pub returns : goal.returns
 unfolding every
 returns c =

@@ -3,7 +3,7 @@ use mathlib.Core.Path.{refl, ap}
 use Prim.Native.Nat.{ℕ}
 use native.Mathlib.Nat.{le_refl}
 use lib.ListN.{length, get_or}
-use Rattle.algebra.specs.Filling.{filling_start, filling_length, filling_index, filling_turn, filling_old, filling_end}
+use Rattle.algebra.specs.Filling.{filling_start, filling_turn, filling_old, filling_end}
 use Rattle.algebra.specs.Xor.{◌⊕◌}
 use Rattle.dyadic.specs.Block.{block_sum}
 use Rattle.formula.proofs.values.add.Invariants.{sums}
@@ -12,12 +12,6 @@ use Rattle.formula.proofs.values.add.Goals as goal
 pub loop-i-init : goal.loop-i-init
 loop-i-init c = filling_start (sums c.args.value.now c.args.other.now) (length c.args.value.now) c.args.value.now refl
 
-pub bounds-value-i : goal.bounds-value-i
-bounds-value-i c = filling_index c.loop-i.invariant c.loop-i-test.true
-
-pub bounds-value-i-in-loop-i : goal.bounds-value-i-in-loop-i
-bounds-value-i-in-loop-i c = filling_index c.loop-i.invariant c.loop-i-test.true
-
 pub loop-i-preserved : goal.loop-i-preserved
 unfolding ◌⊕◌
 loop-i-preserved c =
@@ -25,9 +19,6 @@ loop-i-preserved c =
     let other = c.args.other.now in
     filling_turn l.invariant c.loop-i-test.true
     (ap (λ (x : ℕ). x ⊕ get_or other l.i 0) (filling_old l.invariant l.i 0 (le_refl l.i)))
-
-pub shape_of-value : goal.shape_of-value
-shape_of-value c = filling_length c.loop-i.invariant
 
 pub returns : goal.returns
 unfolding block_sum

