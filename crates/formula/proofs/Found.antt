@@ -1,53 +1,31 @@
 -- What an evaluator finds follows from what it was told: the byte at its place, and what the evaluators that it called have found.
-use mathlib.Core.Path.{◌≡◌, refl, sym, ap, subst, ◌∙◌}
+use mathlib.Core.Path.{◌≡◌, refl, sym, subst, ◌∙◌}
 use mathlib.Core.Logic.{◌≢◌, ◌⊎◌, inl, inr}
-use mathlib.Core.Bool.{Bool, true, false, not, ◌||◌, ◌&&◌, true≢false}
+use mathlib.Core.Bool.{Bool, true, false, ◌||◌, ◌&&◌, true≢false}
 use mathlib.Core.List.{List}
 use Prim.Native.Nat.{ℕ, suc, ◌+◌, ◌-◌, ◌<◌}
 use native.Mathlib.Omega.{arith}
 use lib.Dec.{eqb, lit<}
 use lib.ListN.{length, get_or}
-use borrow.Author.Tests.{eqb-true, eq-eqb, not-true, not-false}
+use borrow.Author.Tests.{eqb-true, eq-eqb}
 use Rattle.field.specs.Gf.{Width, gf}
 use Rattle.slices.specs.Elements.{Elements}
 use Rattle.dyadic.specs.Block.{block_sum, block_product, block_inverse}
-use Rattle.dyadic.specs.Callers.{Factors}
 use Rattle.formula.specs.declared.evaluators.Cursor.{Cursor}
 use Rattle.formula.specs.declared.evaluators.Found.{Found}
 use Rattle.formula.specs.declared.evaluators.Found.TheVariants.{Read, Nothing}
 use Rattle.formula.specs.Letters.{Lent, is_lent, plus_byte, times_byte, over_byte, open_byte, close_byte}
 use Rattle.dyadic.specs.Invertible.{is_invertible}
 use Rattle.formula.specs.Callers.{Ready, LetterIs, Fetched}
-use Rattle.formula.specs.Parser.{first, multiplied, divided}
+use Rattle.formula.specs.Parser.{multiplied, divided}
 use Rattle.formula.specs.Passing.{product_times, product_over}
 use Rattle.formula.specs.Evaluated.{Kind, sums, products, terms, Held, Ends, NoneAt, OnFound, Finds, Moves}
-use Rattle.algebra.specs.ListLaws.{inside}
 use Rattle.formula.proofs.Steps.{on, held_letter, held_bracket, held_term, held_product, held_times, held_over, held_plus}
 use Rattle.formula.proofs.Steps.{term_moves, product_moves}
 use Rattle.formula.proofs.Refusing.{no_letter, no_bracket, no_inner, no_close, no_factor, no_addend}
 
 pub resized : {m : ℕ} {β : Lent} {n n' : ℕ} → Ready m β n → n' ≡ n → Ready m β n'
 resized {m} {β} ready e = subst (Ready m β) (sym e) ready
-
--- what a multiplication asks
-pub factors : {m : ℕ} {β : Lent} {value other : List ℕ} → Ready m β (length value) → Elements m value → length other ≡ length value → Elements m other
-    → Factors m value other value
-factors ready ha e hb =
-    record {
-      width = ready.width;
-      log = ready.log;
-      length_a = ready.power;
-      short = ready.room;
-      length_b = e ∙ ready.power;
-      length_out = ready.power;
-      elements_a = ha;
-      elements_b = hb;
-    }
-
--- a product goes on at the cursor
-pub goes_on : {n byte : ℕ} {more : Bool} → byte ≡ n → more ≡ (eqb byte times_byte || eqb byte over_byte) → more ≡ true
-    → (eqb n times_byte || eqb n over_byte) ≡ true
-goes_on e x t = ap (λ (n : ℕ). eqb n times_byte || eqb n over_byte) (sym e) ∙ sym x ∙ t
 
 -- it goes on with * or with /
 operator_is : (n : ℕ) → (eqb n times_byte || eqb n over_byte) ≡ true → (n ≡ times_byte) ⊎ (n ≡ over_byte)
@@ -56,17 +34,6 @@ operator_is n t = either (eqb n times_byte) refl t
     either : (a : Bool) → eqb n times_byte ≡ a → (a || eqb n over_byte) ≡ true → (n ≡ times_byte) ⊎ (n ≡ over_byte)
     either true e q = inl (eqb-true n times_byte e)
     either false e q = inr (eqb-true n over_byte q)
-
--- and there is a byte there
-pub operator_inside : (text : List ℕ) (at : ℕ) → (eqb (get_or text at 0) times_byte || eqb (get_or text at 0) over_byte) ≡ true → at < length text
-operator_inside text at t = by (operator_is (get_or text at 0) t)
-  where
-    by : (get_or text at 0 ≡ times_byte) ⊎ (get_or text at 0 ≡ over_byte) → at < length text
-    by (inl e) = inside text at e (lit< tt)
-    by (inr e) = inside text at e (lit< tt)
-
-pub moves_read : {at : ℕ} {r : Found} {to : Cursor} → Moves at r → r ≡ Read to → at < to.at
-moves_read {at} f z = subst (OnFound (λ to. at < to.at) (Unit {0})) z f.moves
 
 module _ {K E : Kind} {m : ℕ} {β : Lent} {k : ℕ} {text : List ℕ} {from : Cursor} {value : List ℕ} {r : Found}
     (f : Finds K E m β k text from value r) where
@@ -82,16 +49,16 @@ module _ {K E : Kind} {m : ℕ} {β : Lent} {k : ℕ} {text : List ℕ} {from : 
 module _ {m : ℕ} {β : Lent} {k : ℕ} {text : List ℕ} {from : Cursor} where
   -- ---- terms
 
-  pub letter_read : {n byte : ℕ} {value : List ℕ} {r : Bool} → Ready m β n → byte ≡ get_or text from.at 0 → Fetched β byte value r → not r ≡ false
+  pub letter_read : {n byte : ℕ} {value : List ℕ} {r : Bool} → Ready m β n → byte ≡ get_or text from.at 0 → Fetched β byte value r → r ≡ true
       → Held terms m β k text from (on from) value
   letter_read {byte = byte} {value} {r} ready e f t =
-      let (l, b, lent, v) = subst (LetterIs β byte value) (not-false r t) f.fetched in
+      let (l, b, lent, v) = subst (LetterIs β byte value) t f.fetched in
       held_letter m β text k from l (sym e ∙ b) lent v (subst (Elements m) (sym v) (ready.elements l))
 
-  pub letter_none : {byte : ℕ} {value new : List ℕ} {r : Bool} → byte ≡ get_or text from.at 0 → byte ≢ open_byte → Fetched β byte new r → not r ≡ true
+  pub letter_none : {byte : ℕ} {value new : List ℕ} {r : Bool} → byte ≡ get_or text from.at 0 → byte ≢ open_byte → Fetched β byte new r → r ≡ false
       → Finds terms terms m β k text from value Nothing
   letter_none {byte = byte} {new = new} {r} e ne f t =
-      record { found = no_letter m β text k from.at e ne (subst (LetterIs β byte new) (not-true r t) f.fetched) }
+      record { found = no_letter m β text k from.at e ne (subst (LetterIs β byte new) t f.fetched) }
 
   -- with the marks after it
   pub marks_read : (last : Cursor) {next to : Cursor} {value new : List ℕ} → Held terms m β k text from (on last) value → next ≡ on last
@@ -110,10 +77,6 @@ module _ {m : ℕ} {β : Lent} {k : ℕ} {text : List ℕ} {from : Cursor} where
   pub term_first : {value : List ℕ} {r : Found} {to : Cursor} → Finds terms terms m β k text from value r → r ≡ Read to
       → Held products m β k text from to value
   term_first f z = held_term m β text k (found_read f z).0
-
-  pub term_none : {value new : List ℕ} {r : Found} → Finds terms terms m β k text from value r → r ≡ Nothing
-      → Finds products products m β k text from new Nothing
-  term_none f z = record { found = λ outer s. found_none f z outer (record { sums = s; products = first }) }
 
   pub factor_none : {value new : List ℕ} {r : Found} → Finds products terms m β k text from value r → r ≡ Nothing
       → Finds products products m β k text from new Nothing
@@ -136,10 +99,6 @@ module _ {m : ℕ} {β : Lent} {k : ℕ} {text : List ℕ} {from : Cursor} where
   pub product_first : {value : List ℕ} {r : Found} {to : Cursor} → Finds products products m β k text from value r → r ≡ Read to
       → Held sums m β k text from to value
   product_first f z = held_product m β text k (found_read f z).0
-
-  pub product_none : {value new : List ℕ} {r : Found} → Finds products products m β k text from value r → r ≡ Nothing
-      → Finds sums sums m β k text from new Nothing
-  product_none f z = record { found = λ outer. found_none f z outer first }
 
   pub addend_none : {value new : List ℕ} {r : Found} → Finds sums products m β k text from value r → r ≡ Nothing
       → Finds sums sums m β k text from new Nothing

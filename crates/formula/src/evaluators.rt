@@ -59,7 +59,7 @@ fn is_operator(byte: u8) -> bool
 }
 
 // Each evaluator reads the text from a place on and puts the block of what it reads into `value`; `brackets` may still be opened.
-#[cycle(add_product_multiply_term_product_sum_term)]
+#[cycle(evaluators)]
 pub fn sum(
     m: u32,
     text: &[u8],
@@ -91,7 +91,7 @@ pub fn sum(
 }
 
 // The product after a +, added to the sum that stands before it.
-#[cycle(add_product_multiply_term_product_sum_term)]
+#[cycle(evaluators)]
 fn add_product(
     m: u32,
     text: &[u8],
@@ -120,7 +120,7 @@ fn add_product(
     found
 }
 
-#[cycle(add_product_multiply_term_product_sum_term)]
+#[cycle(evaluators)]
 fn product(
     m: u32,
     text: &[u8],
@@ -152,7 +152,7 @@ fn product(
 }
 
 // The term after a * or a /, by which the product that stands before it is multiplied or divided.
-#[cycle(add_product_multiply_term_product_sum_term)]
+#[cycle(evaluators)]
 fn multiply_term(
     m: u32,
     text: &[u8],
@@ -207,7 +207,7 @@ fn marks(m: u32, text: &[u8], from: Cursor, value: &mut [Elem]) -> Cursor
     cursor
 }
 
-#[cycle(add_product_multiply_term_product_sum_term)]
+#[cycle(evaluators)]
 fn term(
     m: u32,
     text: &[u8],
