@@ -6,8 +6,8 @@ use Rattle.wire.proofs.reading_code.Goals as goal
 
 pub returns-in-Read : goal.returns-in-Read
 returns-in-Read c =
-    as_read c.in-Read.is c.lamp_number.ensures.0 c.wrapping_add_u32-shown.ensures
-    c.wrapping_add_u32.ensures
+    as_read c.in-Read.is c.lamp_number.ensures.0 c.wrapping_add_u32-shown.ensures.value
+    c.wrapping_add_u32.ensures.value
 
 pub returns-in-Refused : goal.returns-in-Refused
 returns-in-Refused c = c.minus.ensures ∙ ap reading_code (sym c.in-Refused.is)
