@@ -170,9 +170,9 @@ module _ (c : Parameters) (h : List ℕ) (s : Setting) (d : Dash) (σ : State) (
     abbrev n : ℕ
     n = length (columns_of c s)
 
-    answer_at : entry_of (answers_after c h s d σ answers handed) p ≡ answer_at c h (columns_of c s) d σ p
+    answer_at_lem : entry_of (answers_after c h s d σ answers handed) p ≡ answer_at c h (columns_of c s) d σ p
     unfolding round_answers
-    answer_at = ap (λ (x : List ℕ). entry_of x p) M.answers_are ∙ get_d_tabulate d.senders (answer_at c h (columns_of c s) d σ) p 0 l
+    answer_at_lem = ap (λ (x : List ℕ). entry_of x p) M.answers_are ∙ get_d_tabulate d.senders (answer_at c h (columns_of c s) d σ) p 0 l
 
     pub waiting_at_lem : entry_of (waiting_after c h s d σ answers handed) p ≡ cond (leaves c h (columns_of c s) d σ p) 0 (entry_of σ.waiting p)
     unfolding round_waiting waiting_at
@@ -197,7 +197,7 @@ module _ (c : Parameters) (h : List ℕ) (s : Setting) (d : Dash) (σ : State) (
       pub left_answer : entry_of (answers_after c h s d σ answers handed) p ≡ recovery_code (word_answer c h (columns_of c s) (word_at (places s) σ p))
       unfolding answer_at
       left_answer =
-          answer_at ∙ ap (λ (b : Bool). cond b (recovery_code (word_answer c h (columns_of c s) (word_at n σ p))) none) e
+          answer_at_lem ∙ ap (λ (b : Bool). cond b (recovery_code (word_answer c h (columns_of c s) (word_at n σ p))) none) e
           ∙ ap (λ (k : ℕ). recovery_code (word_answer c h (columns_of c s) (word_at k σ p))) (length_columns c s)
 
       pub left_handed : part (places s) (handed_after c h s d σ answers handed) p
@@ -214,7 +214,7 @@ module _ (c : Parameters) (h : List ℕ) (s : Setting) (d : Dash) (σ : State) (
     module _ (e : leaves c h (columns_of c s) d σ p ≡ false) where
       pub stayed_answer : entry_of (answers_after c h s d σ answers handed) p ≡ none
       unfolding answer_at
-      stayed_answer = answer_at ∙ ap (λ (b : Bool). cond b (recovery_code (word_answer c h (columns_of c s) (word_at n σ p))) none) e
+      stayed_answer = answer_at_lem ∙ ap (λ (b : Bool). cond b (recovery_code (word_answer c h (columns_of c s) (word_at n σ p))) none) e
 
       pub stayed_handed : part (places s) (handed_after c h s d σ answers handed) p ≡ part (places s) handed p
       unfolding handed_at

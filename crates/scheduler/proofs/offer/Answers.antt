@@ -1,0 +1,58 @@
+-- `offer` meets its contract: what the beginning refused is refused, and else the word has an entry for each sent place, and its sender a part.
+use mathlib.Core.Path.{◌∙◌}
+use mathlib.Core.List.{List, ◌++◌}
+use lib.ListN.{set}
+use Rattle.algebra.specs.Parts.{with_part}
+use Rattle.refusals.specs.Rules.{Rule}
+use Rattle.refusals.specs.declared.Outcome.TheVariants.{Done, Refused}
+use Rattle.shortened.specs.BegunLaws.{begun_refuses, begun_accepted, begun_ends}
+use Rattle.shortened.specs.Setting.{short_code, places}
+use Rattle.scheduler.specs.State.{dash_rules, offer_rules}
+use Rattle.scheduler.specs.Answers.{offer_fault, offer_answer, offer_waiting, offer_words}
+use Rattle.scheduler.proofs.Beginning.{offer_lent, offer_began, kept_wide}
+use borrow.Author.Rules.{rules}
+use Rattle.scheduler.proofs.offer.Goals as goal
+
+pub offer_on-requires : goal.offer_on-requires
+offer_on-requires c =
+    let a = c.args in
+    let begun =
+    offer_began a.d a.word.now a.words.now c.whole_code-found.ensures c.is_parts_length.ensures
+    c.sent_places-n.ensures in
+    let (others, words, A, F) = begun_accepted begun c.in-Count.is in
+    (offer_lent a.d a.word.now a.waiting.now a.words.now (places (short_code a.hidden.now)) others words).1
+
+pub returns-in-Refused : goal.returns-in-Refused
+unfolding offer_answer offer_waiting offer_words offer_fault
+returns-in-Refused c =
+    let a = c.args in
+    let begun =
+    offer_began a.d a.word.now a.words.now c.whole_code-found.ensures c.is_parts_length.ensures
+    c.sent_places-n.ensures in
+    let e = c.in-Refused.is in
+    record {
+      value = begun_refuses begun e _ Refused Done;
+      waiting_after = begun_refuses begun e _ (λ k. a.waiting.now) _;
+      words_after = begun_refuses begun e _ (λ k. a.words.now) _;
+    }
+
+pub returns-in-Count : goal.returns-in-Count
+unfolding offer_answer offer_waiting offer_words offer_fault
+returns-in-Count c =
+    let a = c.args in
+    let begun =
+    offer_began a.d a.word.now a.words.now c.whole_code-found.ensures c.is_parts_length.ensures
+    c.sent_places-n.ensures in
+    let e = c.in-Count.is in
+    let (others, words, A, F) = begun_accepted begun e in
+    let fits = (offer_lent a.d a.word.now a.waiting.now a.words.now (places (short_code a.hidden.now)) others words).0 in
+    let call = c.offer_on.ensures in
+    let rules : List Rule = dash_rules a.d ++ offer_rules a.d a.sender a.word.now a.waiting.now in
+    let kept = kept_wide a.sender a.word.now {rules = rules} fits call.kept in
+    let (answer, marks) = begun_ends begun e (λ cols. rules) (λ cols. set a.waiting.now a.sender 1) call.marks in
+    let words' = with_part (places (short_code a.hidden.now)) a.words.now a.sender a.word.now in
+    record {
+      value = c.ended.ensures ∙ answer;
+      waiting_after = marks;
+      words_after = (begun_ends begun e (λ cols. rules) (λ cols. words') kept).1;
+    }
