@@ -29,5 +29,5 @@ module _ {c : Parameters} {h : List ℕ} (A : Accepted c h) where
       subst (λ (cols : List ℕ). SameMatrix c h cols c h (all_columns c whole_code)) (sym (all_columns_lem A))
       (record { widths = refl; rows = refl; columns = refl; entries = λ i j li lj. refl })
 
-  pub all_blocks : (hidden : List ℕ) → Alike c h (shortened (all_blocks c) hidden) c h (short_code hidden)
-  all_blocks hidden = answered_alike (record { rows = refl; due = same_due; matrix = λ F. same_matrix }) hidden
+  pub all_blocks_lem : (hidden : List ℕ) → Alike c h (shortened (all_blocks c) hidden) c h (short_code hidden)
+  all_blocks_lem hidden = answered_alike (record { rows = refl; due = same_due; matrix = λ F. same_matrix }) hidden

@@ -171,6 +171,7 @@ pub not_lowest : {k : ℕ} {rules : List Rule} → Lowest k rules → lacks k ru
 not_lowest {k} {rules} L l = none rules L.fails l
   where
     none : (rules : List Rule) → Fails k rules → lacks k rules ≡ true → ⊥
+    none [] fails l = elim fails [ ]
     none ((n unless t) ∷ rules) (inl (is, _)) l = eqb-false n k (not-true (eqb n k) (both_true (not (eqb n k)) (lacks k rules) l).0) is
     none ((n unless t) ∷ rules) (inr later) l = none rules later (both_true (not (eqb n k)) (lacks k rules) l).1
 

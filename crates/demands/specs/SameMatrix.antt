@@ -81,9 +81,9 @@ module _ {c₁ c₂ : Parameters} {h₁ cols₁ h₂ cols₂ : List ℕ} (M : Sa
   unfolding write_rules
   write_rules_lem gear lamp = ap (λ (k : ℕ). (12 unless leb row_bits k) ∷ (11 unless is_row gear lamp) ∷ []) (same_dimension M)
 
-  row_word : (gear lamp : ℕ) → row_word c₁ h₁ cols₁ gear lamp ≡ row_word c₂ h₂ cols₂ gear lamp
+  row_word_lem : (gear lamp : ℕ) → row_word c₁ h₁ cols₁ gear lamp ≡ row_word c₂ h₂ cols₂ gear lamp
   unfolding row_word
-  row_word gear lamp =
+  row_word_lem gear lamp =
       same_encoding M (row_message (dimension c₁ h₁ cols₁) gear lamp)
       ∙ ap (λ (k : ℕ). encoding_of c₂ h₂ cols₂ (row_message k gear lamp)) (same_dimension M)
 
@@ -97,15 +97,15 @@ module _ {c₁ c₂ : Parameters} {h₁ cols₁ h₂ cols₂ : List ℕ} (M : Sa
       ap₂ (λ (k : ℕ) (rules : List Rule). (12 unless leb row_bits k) ∷ rules) (same_dimension M)
       (ap₂ (λ (rules : List Rule) (b : Bool). rules ++ (11 unless b) ∷ []) (word_rules_lem received) (ap is_row_message (same_carried received)))
 
-  row_read : (received : List ℕ) → row_read c₁ h₁ cols₁ received ≡ row_read c₂ h₂ cols₂ received
+  row_read_lem : (received : List ℕ) → row_read c₁ h₁ cols₁ received ≡ row_read c₂ h₂ cols₂ received
   unfolding row_read
-  row_read received =
+  row_read_lem received =
       ap₂ (λ (l : List ℕ) (n : ℕ). Read (row_of (gear_in l) (lamp_in l)) n) (same_carried received) (turned_count_lem received)
 
   reading : (received : List ℕ) → reading_answer c₁ h₁ cols₁ received ≡ reading_answer c₂ h₂ cols₂ received
   unfolding reading_answer
   reading received =
-      ap₂ (λ (rules : List Rule) (value : Reading). unless_refused (fault rules) NotRead value) (read_rules_lem received) (row_read received)
+      ap₂ (λ (rules : List Rule) (value : Reading). unless_refused (fault rules) NotRead value) (read_rules_lem received) (row_read_lem received)
 
   start_rules_lem : start_rules c₁ h₁ cols₁ ≡ start_rules c₂ h₂ cols₂
   unfolding start_rules
@@ -121,7 +121,7 @@ module _ {c₁ c₂ : Parameters} {h₁ cols₁ h₂ cols₂ : List ℕ} (M : Sa
       ap (verdict_of (gear_at σ i) (lamp_at σ i))
       (reading (turned (length cols₁) (is_marked (marks_at (length cols₁) σ i)) (row_word c₁ h₁ cols₁ (gear_at σ i) (lamp_at σ i)))
       ∙ ap₂ (λ (n : ℕ) (w : List ℕ). reading_answer c₂ h₂ cols₂ (turned n (is_marked (marks_at n σ i)) w)) M.columns
-      (row_word (gear_at σ i) (lamp_at σ i)))
+      (row_word_lem (gear_at σ i) (lamp_at σ i)))
 
   ride_counts_lem : (σ : Steps) → ride_counts c₁ h₁ cols₁ σ ≡ ride_counts c₂ h₂ cols₂ σ
   unfolding ride_counts counts_up_to verdict_count
@@ -157,9 +157,9 @@ module _ {c₁ c₂ : Parameters} {h₁ cols₁ h₂ cols₂ : List ℕ} (M : Sa
       fun_ext
       (λ w. ap₂ (λ (rules : List Rule) (k : ℕ). unless_refused (fault rules) NotRepaired (Repaired k)) (word_rules_lem w) (turned_count_lem w))
 
-  word_after : word_after c₁ h₁ cols₁ ≡ word_after c₂ h₂ cols₂
+  word_after_lem : word_after c₁ h₁ cols₁ ≡ word_after c₂ h₂ cols₂
   unfolding word_after
-  word_after =
+  word_after_lem =
       fun_ext
       (λ w.
       ap₂ (λ (rules : List Rule) (x : List ℕ). λ (old : List ℕ). unless_refused (fault rules) (λ k. old) x) (word_rules_lem w) (same_repaired M w))
@@ -189,7 +189,7 @@ module _ {c₁ c₂ : Parameters} {h₁ cols₁ h₂ cols₂ : List ℕ} (M : Sa
       (leaving d σ)
       ∙ ap₂ (λ (n : ℕ) (f : List ℕ → List ℕ → List ℕ).
       joined d.senders (λ p. cond (leaves c₂ h₂ cols₂ d σ p) (f (word_at n σ p) (part n handed p)) (part n handed p)))
-      M.columns word_after
+      M.columns word_after_lem
 
   round_rules_lem : (d : Dash) (σ : State) → round_rules d σ cols₁ ≡ round_rules d σ cols₂
   round_rules_lem d σ = ap (λ (n : ℕ). dash_rules d ++ state_rules d n σ) M.columns
@@ -346,13 +346,13 @@ module _ {c₁ c₂ : Parameters} {h₁ h₂ : List ℕ} {k₁ k₂ : Choice} (P
             let own : Of (List Rule) = λ c h cols. write_rules c h cols gear lamp in
             let same_own : FromMatrix own = λ M. write_rules_lem M gear lamp in (
               call true (eqb (length word) n) own Refused (λ c h cols. Done) same_own (λ M. refl),
-              call true (eqb (length word) n) own (λ k. word) (λ c h cols. row_word c h cols gear lamp) same_own (λ M. row_word M gear lamp),
+              call true (eqb (length word) n) own (λ k. word) (λ c h cols. row_word c h cols gear lamp) same_own (λ M. row_word_lem M gear lamp),
             );
         read_row = λ received repaired.
             let words : Bool = eqb (length received) n && eqb (length repaired) n in
             let own : Of (List Rule) = λ c h cols. read_rules c h cols received in
             let same_own : FromMatrix own = λ M. read_rules_lem M received in (
-              call true words own NotRead (λ c h cols. row_read c h cols received) same_own (λ M. row_read M received),
+              call true words own NotRead (λ c h cols. row_read c h cols received) same_own (λ M. row_read_lem M received),
               call true words own (λ k. repaired) (λ c h cols. repaired_of c h cols received) same_own (λ M. same_repaired M received),
             );
         ride = λ σ counts. (
