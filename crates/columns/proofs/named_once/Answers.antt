@@ -10,7 +10,7 @@ pub loop-b-init : goal.loop-b-init
 loop-b-init c = naming_start c.args.blocks.now
 
 pub overflow_cast-block : goal.overflow_cast-block
-overflow_cast-block c = omega (arith, c.shared_slice_known-1.given c.loop-b.b)
+overflow_cast-block c = omega (arith, c.type_inv.blocks c.loop-b.b)
 
 pub bounds-named-block : goal.bounds-named-block
 bounds-named-block c = c.requires c.loop-b.b c.loop-b-test.true

@@ -19,7 +19,7 @@ unfolding bit_at
 overflow_mul-sum c =
     let l = c.loop-s in
     record {
-      fits = bit_times_lt widest _ _ (bit_at_lt c.args.choice l.s) (c.shared_slice_known-1.given l.s).fits;
+      fits = bit_times_lt widest _ _ (bit_at_lt c.args.choice l.s) (c.type_inv.values l.s).fits;
     }
 
 pub loop-s-preserved : goal.loop-s-preserved

@@ -5,7 +5,7 @@ use borrow.Author.Rules.{rules}
 use Rattle.gears.proofs.entry.Goals as goal
 
 pub overflow_cast-result : goal.overflow_cast-result
-overflow_cast-result c = omega (arith, c.shared_slice_known-1.given c.args.place)
+overflow_cast-result c = omega (arith, c.type_inv.message c.args.place)
 
 pub returns : goal.returns
-returns c = (refl, omega (arith, c.shared_slice_known-1.given c.args.place))
+returns c = (refl, omega (arith, c.type_inv.message c.args.place))

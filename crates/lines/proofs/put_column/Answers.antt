@@ -5,13 +5,13 @@ use borrow.Author.Rules.{rules}
 use Rattle.lines.proofs.put_column.Goals as goal
 
 pub overflow_cast-line-2 : goal.overflow_cast-line-2
-overflow_cast-line-2 c = omega (arith, c.shared_slice_known-4-1.given c.args.j)
+overflow_cast-line-2 c = omega (arith, c.type_inv.h c.args.j)
 
 pub overflow_cast-line-3 : goal.overflow_cast-line-3
-overflow_cast-line-3 c = omega (arith, c.shared_slice_known-5-1.given c.args.j)
+overflow_cast-line-3 c = omega (arith, c.type_inv.support c.args.j)
 
 pub overflow_cast-line-4 : goal.overflow_cast-line-4
-overflow_cast-line-4 c = omega (arith, c.shared_slice_known-6-1.given c.args.j)
+overflow_cast-line-4 c = omega (arith, c.type_inv.roles c.args.j)
 
 pub returns : goal.returns
 unfolding column_line

@@ -26,7 +26,7 @@ loop-j-init c =
     )
 
 pub overflow_cast-column : goal.overflow_cast-column
-overflow_cast-column c = omega (arith, c.shared_slice_known-in-loop-j-1.given c.loop-j.j)
+overflow_cast-column c = omega (arith, c.type_inv.cols c.loop-j.j)
 
 pub bounds-received-j : goal.bounds-received-j
 bounds-received-j c =

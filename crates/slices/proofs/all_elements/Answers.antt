@@ -17,7 +17,7 @@ loop-i-init c =
     let a = c.args in (c.requires, refl, scanning_start (length a.a.now) (λ k. is_element a.m (entry_of a.a.now k)))
 
 pub overflow_cast-a : goal.overflow_cast-a
-overflow_cast-a c = omega (arith, c.shared_slice_known-in-loop-i-1.given c.loop-i.i)
+overflow_cast-a c = omega (arith, c.type_inv.a c.loop-i.i)
 
 pub returns-then-not-is_element : goal.returns-then-not-is_element
 unfolding all_elements

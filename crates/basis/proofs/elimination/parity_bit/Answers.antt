@@ -14,7 +14,7 @@ pub offset_bounds-cols-j : goal.offset_bounds-cols-j
 offset_bounds-cols-j c = omega arith
 
 pub overflow_cast-at : goal.overflow_cast-at
-overflow_cast-at c = omega (arith, c.shared_slice_known-1.given c.args.j)
+overflow_cast-at c = omega (arith, c.type_inv.cols c.args.j)
 
 pub offset_bounds-h-at : goal.offset_bounds-h-at
 unfolding ◌⊕◌
@@ -27,7 +27,7 @@ bounds-h-at c = c.requires.2
 pub overflow_cast-result : goal.overflow_cast-result
 overflow_cast-result c =
     let a = c.args in
-    omega (arith, c.shared_slice_known-2-1.given (bit_xor a.i (entry_of a.cols.now a.j)))
+    omega (arith, c.type_inv.h (bit_xor a.i (entry_of a.cols.now a.j)))
 
 pub returns : goal.returns
 unfolding ◌⊕◌ parity_bit bit_at

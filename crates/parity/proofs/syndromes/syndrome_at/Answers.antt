@@ -15,13 +15,13 @@ pub loop-j-init : goal.loop-j-init
 loop-j-init c = (refl, sum_start c.args.m c.args.h.now c.args.cols.now c.args.word.now c.args.i)
 
 pub overflow_cast-at : goal.overflow_cast-at
-overflow_cast-at c = omega (arith, c.shared_slice_known-1.given c.loop-j.j)
+overflow_cast-at c = omega (arith, c.type_inv.cols c.loop-j.j)
 
 pub bounds-word-j : goal.bounds-word-j
 bounds-word-j c = omega (arith, c.requires.0.long)
 
 pub overflow_cast-sum : goal.overflow_cast-sum
-overflow_cast-sum c = omega (arith, c.shared_slice_known-in-loop-j-1.given c.loop-j.j)
+overflow_cast-sum c = omega (arith, c.type_inv.h c.loop-j.j)
 
 pub offset_bounds-h-at : goal.offset_bounds-h-at
 unfolding ◌⊕◌

@@ -24,7 +24,7 @@ loop-i-init c =
     (refl, riding_start a.c a.h.now a.cols.now σ c.clear.ensures)
 
 pub overflow_cast-gear : goal.overflow_cast-gear
-overflow_cast-gear c = omega (arith, c.shared_slice_known-in-loop-i-1.given c.loop-i.i)
+overflow_cast-gear c = omega (arith, c.type_inv.gears c.loop-i.i)
 
 pub bounds-lamps-i : goal.bounds-lamps-i
 bounds-lamps-i c =
@@ -32,7 +32,7 @@ bounds-lamps-i c =
     omega (arith, s.lent_steps.lamps_long, c.loop-i-test.true)
 
 pub overflow_cast-lamp : goal.overflow_cast-lamp
-overflow_cast-lamp c = omega (arith, c.shared_slice_known-in-loop-i-2-1.given c.loop-i.i)
+overflow_cast-lamp c = omega (arith, c.type_inv.lamps c.loop-i.i)
 
 pub overflow_mul-start : goal.overflow_mul-start
 overflow_mul-start c =
