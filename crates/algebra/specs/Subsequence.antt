@@ -1,8 +1,8 @@
 -- The places that pass a test, numbered anew: place q, where it passes, is number `count q`. Sums, counts and choices over the new numbers are those
 -- over the places, with nothing where the test fails.
-use Rattle.std.specs.Prelude.{◌≡◌, Bool, ◌&&◌, length}
+use Rattle.std.specs.Prelude.{◌≡◌, Bool, ◌&&◌}
 use Rattle.std.proofs.Math.Path.{refl, sym, ap}
-use Rattle.std.proofs.Common.{ap₂, ◌∙◌, subst, not-suc-le-zero, add-one}
+use Rattle.std.proofs.Common.{◌∙◌, subst, not-suc-le-zero, add-one}
 use Rattle.std.proofs.Math.Bool.{true, false, cond, not}
 use Rattle.std.proofs.lemmas.Bool.{false≢true}
 use mathlib.Core.List.{List, [], ◌∷◌, ◌++◌, append-nil}

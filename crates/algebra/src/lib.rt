@@ -1,3 +1,2 @@
 // Mathematics that the other crates cite: it stands in specs/, and there is no function here.
 #![tactic(auto)]
-

@@ -23,7 +23,7 @@ use Rattle.parity.specs.Columns.{roles_of, dimension, message_of, encoding_of}
 use Rattle.parity.specs.Word.{syndrome_of}
 use Rattle.columns.specs.Choice.{Choice, Choice.whole_code, all_places, all_columns, choice_rules}
 use Rattle.columns.specs.ChoiceLaws.{choice_numbered}
-use Rattle.shortened.specs.Marks.{sent_dimension, mark_rules}
+use Rattle.shortened.specs.Marks.{mark_rules}
 use Rattle.shortened.specs.NothingHidden.{unhidden-places, unhidden_columns, unhidden-fault, unhidden_hides, unhidden_fits, unhidden_dimension}
 use Rattle.shortened.specs.Setting.{Setting, places, columns_of, setting_rules}
 use Rattle.shortened.specs.SettingLaws.{marks_pass}

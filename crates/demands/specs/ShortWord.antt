@@ -1,5 +1,5 @@
 -- Short words in the request's words: what is sent stands for a word of all places, which is 0 at every hidden one.
-use Rattle.std.specs.Prelude.{◌≡◌, Bool, false, ◌&&◌, List, ℕ, ◌<◌, length}
+use Rattle.std.specs.Prelude.{◌≡◌, false, ◌&&◌, List, ℕ, ◌<◌, length}
 use Rattle.algebra.specs.Lists.{entry_of}
 use Rattle.algebra.specs.Places.{count, chosen}
 use Rattle.slices.specs.Bits.{Bits}

@@ -14,7 +14,7 @@ use Rattle.std.proofs.Math.ListN.{length}
 use Rattle.std.proofs.Math.Seq.{ext_get_or}
 use Rattle.algebra.specs.Lists.{entry_of}
 use Rattle.algebra.specs.Places.{count}
-use Rattle.algebra.specs.PlaceLaws.{count_tests, chosen_cong}
+use Rattle.algebra.specs.PlaceLaws.{count_tests}
 use Rattle.algebra.specs.Subsequence.{count_chosen}
 use Rattle.algebra.specs.TabulateLaws.{get_d_tabulate, length-tabulate}
 use Rattle.refusals.specs.declared.Outcome.TheVariants.{Done}
@@ -22,18 +22,16 @@ use Rattle.slices.specs.Bits.{Bits, IsBits}
 use Rattle.params.specs.declared.Parameters.{Parameters}
 use Rattle.params.specs.Code.{Accepted}
 use Rattle.parity.specs.Columns.{is_message_column, roles_of, dimension, message_of}
-use Rattle.parity.specs.Word.{syndrome_at}
 use Rattle.columns.specs.Choice.{all_places, all_columns}
-use Rattle.columns.specs.ChoiceLaws.{length_all}
 use Rattle.shortened.specs.Fits.{Fits}
 use Rattle.shortened.specs.Marks.{is_sent, sent_count, sent_of, full_word, sent_dimension}
-use Rattle.shortened.specs.MarkLaws.{length_sent, sent_below, sent_entry, full_sent, full_hidden, length_full, sent_of_full, full_of_sent}
-use Rattle.shortened.specs.MarkLaws.{full_bits, sent_bits, From, from, sent_from}
+use Rattle.shortened.specs.MarkLaws.{length_sent, full_sent, full_hidden, length_full, sent_of_full, full_of_sent}
+use Rattle.shortened.specs.MarkLaws.{full_bits, From, from, sent_from}
 use Rattle.shortened.specs.Setting.{Setting, places, columns_of}
 use Rattle.shortened.specs.SettingLaws.{fits_marked}
 use Rattle.shortened.specs.ShortCode.{syndrome_short, role_short, dimension_short, message_short}
 use Rattle.nearest.specs.Repair.{differs, distance}
-use Rattle.words.specs.Answers.{encode_answer, encode_after, message_answer, message_after}
+use Rattle.words.specs.Answers.{encode_answer, encode_after, message_after}
 use Rattle.repair.specs.declared.Recovery.TheVariants.{Repaired, Refused}
 use Rattle.repair.specs.Answers.{repair_answer, repair_after}
 use Rattle.demands.specs.CodeWords.{CodeWord, is_bits}

@@ -8,11 +8,10 @@ mod pairs;
 mod short;
 
 use field::{Answer, Elem};
-use io::print_decimal;
-use libc::STDOUT_FILENO;
 use params::Parameters;
 use refusals::Outcome;
 use repair::Recovery;
+use std::io;
 
 // Card T.
 const TOY: [Elem; 16] = [12, 8, 10, 22, 26, 9, 16, 21, 14, 5, 17, 4, 30, 23, 25, 31];
@@ -29,74 +28,74 @@ fn code(m: u32, n: u32, t: u32, omega: u32) -> Parameters {
     Parameters { m, n, t, omega }
 }
 
-fn print(text: &[u8]) {
-    io::write_all(STDOUT_FILENO, text);
+fn print(rt: &impl Print, text: &[u8]) -> io::Result<()> {
+    rt.write_all(text)
 }
 
-fn print_number(number: u64) {
-    print(b" ");
-    print_decimal(STDOUT_FILENO, number);
+fn print_number(rt: &impl Print, number: u64) -> io::Result<()> {
+    print!(rt; " {number}")?;
+    Ok(())
 }
 
-fn print_elements(elements: &[Elem]) {
+fn print_elements(rt: &impl Print, elements: &[Elem]) -> io::Result<()> {
     for i in 0..elements.len() {
-        print_number(elements[i] as u64);
+        print_number(rt, elements[i] as u64)?;
     }
-    print(b"\n");
+    print(rt, b"\n")
 }
 
 // The places that hold 1.
-fn print_ones(word: &[u8]) {
+fn print_ones(rt: &impl Print, word: &[u8]) -> io::Result<()> {
     for j in 0..word.len() {
         if word[j] == 1 {
-            print_number(j as u64);
+            print_number(rt, j as u64)?;
         }
     }
-    print(b"\n");
+    print(rt, b"\n")
 }
 
-fn print_outcome(outcome: Outcome) {
+fn print_outcome(rt: &impl Print, outcome: Outcome) -> io::Result<()> {
     match outcome {
-        Outcome::Done => print(b" accepted\n"),
+        Outcome::Done => print(rt, b" accepted\n"),
         Outcome::Refused(number) => {
-            print(b" refused by");
-            print_number(number as u64);
-            print(b"\n");
+            print(rt, b" refused by")?;
+            print_number(rt, number as u64)?;
+            print(rt, b"\n")
         }
     }
 }
 
-fn print_recovery(recovery: Recovery, repaired: &[u8]) {
+fn print_recovery(rt: &impl Print, recovery: Recovery, repaired: &[u8]) -> io::Result<()> {
     match recovery {
         Recovery::Repaired(count) => {
-            print(b" repaired bits");
-            print_number(count as u64);
-            print(b", ones at");
-            print_ones(repaired);
+            print(rt, b" repaired bits")?;
+            print_number(rt, count as u64)?;
+            print(rt, b", ones at")?;
+            print_ones(rt, repaired)
         }
-        Recovery::Refused(number) => print_outcome(Outcome::Refused(number)),
+        Recovery::Refused(number) => print_outcome(rt, Outcome::Refused(number)),
     }
 }
 
-fn show_toy() {
+fn show_toy(rt: &impl Print) -> io::Result<()> {
     let mut roots: [Elem; 16] = [0; 16];
     let mut support: [Elem; 16] = [0; 16];
     let mut roles: [u8; 16] = [0; 16];
     let c = toy();
     codes::check(c, &TOY, &NOTHING, &mut roots, &mut support);
     words::roles(c, &TOY, &NOTHING, &mut roles);
-    print(b"toy example: support");
-    print_elements(&support);
-    print(b"toy example: roots");
-    print_elements(&roots[..2]);
-    print(b"toy example: message columns");
-    print_ones(&roles);
+    print(rt, b"toy example: support")?;
+    print_elements(rt, &support)?;
+    print(rt, b"toy example: roots")?;
+    print_elements(rt, &roots[..2])?;
+    print(rt, b"toy example: message columns")?;
+    print_ones(rt, &roles)
 }
 
-fn show_repair(received: &[u8]) {
+fn show_repair(rt: &impl Print, received: &[u8]) -> io::Result<()> {
     let mut repaired: [u8; 16] = [0; 16];
     let recovery = repair::repair(toy(), &TOY, &NOTHING, received, &mut repaired);
-    print_recovery(recovery, &repaired);
+    print_recovery(rt, recovery, &repaired)
 }
 
 // The word with one place turned; past the end there is none to turn.
@@ -109,62 +108,69 @@ fn turned(word: [u8; 16], place: usize) -> [u8; 16] {
     received
 }
 
-fn show_row() {
+fn show_row(rt: &impl Print) -> io::Result<()> {
     let mut word: [u8; 16] = [0; 16];
     rows::write_row(toy(), &TOY, &NOTHING, 1, 0, &mut word);
-    print(b"first, dark: ones at");
-    print_ones(&word);
+    print(rt, b"first, dark: ones at")?;
+    print_ones(rt, &word)?;
     let received = turned(turned(word, 0), 8);
-    print(b"with 0 and 8 turned:");
-    show_repair(&received);
+    print(rt, b"with 0 and 8 turned:")?;
+    show_repair(rt, &received)?;
     let mut far: [u8; 16] = [0; 16];
     far[1] = 1;
     far[2] = 1;
     far[5] = 1;
-    print(b"ones at 1 2 5 only:");
-    show_repair(&far);
+    print(rt, b"ones at 1 2 5 only:")?;
+    show_repair(rt, &far)
 }
 
 // Whether the width m is accepted.
-fn show_width(m: u32) {
+fn show_width(rt: &impl Print, m: u32) -> io::Result<()> {
     let h: [Elem; 2] = [1, 2];
     let mut roots: [Elem; 2] = [0; 2];
     let mut support: [Elem; 2] = [0; 2];
-    print(b"m");
-    print_number(m as u64);
-    print(b":");
-    print_outcome(codes::check(
-        code(m, 2, 1, 0),
-        &h,
-        &NOTHING[..2],
-        &mut roots,
-        &mut support,
-    ));
+    print(rt, b"m")?;
+    print_number(rt, m as u64)?;
+    print(rt, b":")?;
+    print_outcome(
+        rt,
+        codes::check(
+            code(m, 2, 1, 0),
+            &h,
+            &NOTHING[..2],
+            &mut roots,
+            &mut support,
+        ),
+    )
 }
 
 // Whether a signature in the field of width m is accepted, n being its length, with marks that hide nothing.
 fn show_length(
+    rt: &impl Print,
     m: u32,
     n: u32,
     h: &[Elem],
     hidden: &[u8],
     roots: &mut [Elem],
     support: &mut [Elem],
-) {
-    print(b"m");
-    print_number(m as u64);
-    print(b", n");
-    print_number(n as u64);
-    print(b":");
-    print_outcome(codes::check(code(m, n, 1, 0), h, hidden, roots, support));
+) -> io::Result<()> {
+    print(rt, b"m")?;
+    print_number(rt, m as u64)?;
+    print(rt, b", n")?;
+    print_number(rt, n as u64)?;
+    print(rt, b":")?;
+    print_outcome(
+        rt,
+        codes::check(code(m, n, 1, 0), h, hidden, roots, support),
+    )
 }
 
 // A length that no signature has.
-fn show_length_3() {
+fn show_length_3(rt: &impl Print) -> io::Result<()> {
     let h: [Elem; 3] = [1; 3];
     let mut roots: [Elem; 3] = [0; 3];
     let mut support: [Elem; 3] = [0; 3];
-    show_length(9, 3, &h, &NOTHING[..3], &mut roots, &mut support);
+    show_length(rt, 9, 3, &h, &NOTHING[..3], &mut roots, &mut support)
 }
 
 // The inverse of an element of the field of width 9.
@@ -184,73 +190,79 @@ fn signature_256() -> [Elem; 256] {
     h
 }
 
-fn show_length_256() {
+fn show_length_256(rt: &impl Print) -> io::Result<()> {
     let h = signature_256();
     let mut roots: [Elem; 256] = [0; 256];
     let mut support: [Elem; 256] = [0; 256];
     let hidden: [u8; 256] = [0; 256];
-    show_length(9, 256, &h, &hidden, &mut roots, &mut support);
+    show_length(rt, 9, 256, &h, &hidden, &mut roots, &mut support)
 }
 
 // A length above the longest.
-fn show_length_1024() {
+fn show_length_1024(rt: &impl Print) -> io::Result<()> {
     let h: [Elem; 1024] = [1; 1024];
     let mut roots: [Elem; 1024] = [0; 1024];
     let mut support: [Elem; 1024] = [0; 1024];
     let hidden: [u8; 1024] = [0; 1024];
-    show_length(16, 1024, &h, &hidden, &mut roots, &mut support);
+    show_length(rt, 16, 1024, &h, &hidden, &mut roots, &mut support)
 }
 
 // Whether card A with t roots is accepted.
-fn show_root_count(t: u32) {
+fn show_root_count(rt: &impl Print, t: u32) -> io::Result<()> {
     let h: [Elem; 4] = [7, 2, 3, 4];
     let mut roots: [Elem; 4] = [0; 4];
     let mut support: [Elem; 4] = [0; 4];
-    print(b"n 4, t");
-    print_number(t as u64);
-    print(b":");
-    print_outcome(codes::check(
-        code(3, 4, t, 0),
-        &h,
-        &NOTHING[..4],
-        &mut roots,
-        &mut support,
-    ));
+    print(rt, b"n 4, t")?;
+    print_number(rt, t as u64)?;
+    print(rt, b":")?;
+    print_outcome(
+        rt,
+        codes::check(
+            code(3, 4, t, 0),
+            &h,
+            &NOTHING[..4],
+            &mut roots,
+            &mut support,
+        ),
+    )
 }
 
 // A code whose only code word is zero: k is 0.
-fn show_empty_message() {
+fn show_empty_message(rt: &impl Print) -> io::Result<()> {
     let h: [Elem; 2] = [1, 2];
     let message: [u8; 2] = [0; 2];
     let mut word: [u8; 2] = [1; 2];
-    print(b"k 0, the empty message:");
-    print_outcome(words::encode(
-        code(2, 2, 1, 0),
-        &h,
-        &NOTHING[..2],
-        &message[..0],
-        &mut word,
-    ));
-    print(b"its word has ones at");
-    print_ones(&word);
+    print(rt, b"k 0, the empty message:")?;
+    print_outcome(
+        rt,
+        words::encode(
+            code(2, 2, 1, 0),
+            &h,
+            &NOTHING[..2],
+            &message[..0],
+            &mut word,
+        ),
+    )?;
+    print(rt, b"its word has ones at")?;
+    print_ones(rt, &word)
 }
 
-fn main() {
-    show_toy();
-    show_row();
-    pairs::show_pairs();
-    show_width(1);
-    show_width(2);
-    show_width(9);
-    show_width(16);
-    show_width(17);
-    show_length_3();
-    show_length_256();
-    show_length_1024();
-    show_root_count(2);
-    show_root_count(4);
-    show_empty_message();
-    short::show_short();
-    formulas::show_formulas();
-    essences::show_essences();
+fn main(rt: HostRuntime) -> io::Result<()> {
+    show_toy(&rt)?;
+    show_row(&rt)?;
+    pairs::show_pairs(&rt)?;
+    show_width(&rt, 1)?;
+    show_width(&rt, 2)?;
+    show_width(&rt, 9)?;
+    show_width(&rt, 16)?;
+    show_width(&rt, 17)?;
+    show_length_3(&rt)?;
+    show_length_256(&rt)?;
+    show_length_1024(&rt)?;
+    show_root_count(&rt, 2)?;
+    show_root_count(&rt, 4)?;
+    show_empty_message(&rt)?;
+    short::show_short(&rt)?;
+    formulas::show_formulas(&rt)?;
+    essences::show_essences(&rt)
 }

@@ -4,25 +4,26 @@ use crate::{NOTHING, TOY, print, print_number, toy, turned};
 use gears::Lamp;
 use refusals::Outcome;
 use rows::Reading;
+use std::io;
 
-fn print_gear(gear: u32) {
+fn print_gear(rt: &impl Print, gear: u32) -> io::Result<()> {
     match gear {
-        0 => print(b"neutral"),
-        1 => print(b"first"),
-        2 => print(b"second"),
-        3 => print(b"third"),
-        4 => print(b"fourth"),
-        5 => print(b"fifth"),
-        6 => print(b"sixth"),
-        _ => print(b"high neutral"),
+        0 => print(rt, b"neutral"),
+        1 => print(rt, b"first"),
+        2 => print(rt, b"second"),
+        3 => print(rt, b"third"),
+        4 => print(rt, b"fourth"),
+        5 => print(rt, b"fifth"),
+        6 => print(rt, b"sixth"),
+        _ => print(rt, b"high neutral"),
     }
 }
 
-fn print_lamp(lamp: Lamp) {
+fn print_lamp(rt: &impl Print, lamp: Lamp) -> io::Result<()> {
     match lamp {
-        Lamp::Dark => print(b", dark"),
-        Lamp::Green => print(b", green"),
-        Lamp::Amber => print(b", amber"),
+        Lamp::Dark => print(rt, b", dark"),
+        Lamp::Green => print(rt, b", green"),
+        Lamp::Amber => print(rt, b", amber"),
     }
 }
 
@@ -41,57 +42,58 @@ fn word_of(gear: u32, lamp: u32) -> [u8; 16] {
     word
 }
 
-fn show_reading(received: [u8; 16]) {
+fn show_reading(rt: &impl Print, received: [u8; 16]) -> io::Result<()> {
     let mut repaired: [u8; 16] = [0; 16];
     let reading = rows::read_row(toy(), &TOY, &NOTHING, &received, &mut repaired);
     match reading {
         Reading::Read(row, count) => {
             let lamp = row.lamp;
-            print(b"; ");
-            print_gear(row.gear);
-            print_lamp(lamp);
-            print(b", repaired bits");
-            print_number(count as u64);
+            print(rt, b"; ")?;
+            print_gear(rt, row.gear)?;
+            print_lamp(rt, lamp)?;
+            print(rt, b", repaired bits")?;
+            print_number(rt, count as u64)
         }
         Reading::Refused(number) => {
-            print(b"; refused by");
-            print_number(number as u64);
+            print(rt, b"; refused by")?;
+            print_number(rt, number as u64)
         }
     }
 }
 
 // The word of a gear and a lamp, the lamp by its number: written as a row where it is one.
-fn sent(gear: u32, number: u32) -> [u8; 16] {
+fn sent(rt: &impl Print, gear: u32, number: u32) -> io::Result<[u8; 16]> {
     let mut word: [u8; 16] = [0; 16];
     let outcome = rows::write_row(toy(), &TOY, &NOTHING, gear, number, &mut word);
     match outcome {
         Outcome::Done => {
-            print(b" is written");
-            word
+            print(rt, b" is written")?;
+            Ok(word)
         }
         Outcome::Refused(refusal) => {
-            print(b" is refused by");
-            print_number(refusal as u64);
-            word_of(gear, number)
+            print(rt, b" is refused by")?;
+            print_number(rt, refusal as u64)?;
+            Ok(word_of(gear, number))
         }
     }
 }
 
-fn show_pair(gear: u32, number: u32, lamp: Lamp) {
-    print_gear(gear);
-    print_lamp(lamp);
-    let word = sent(gear, number);
+fn show_pair(rt: &impl Print, gear: u32, number: u32, lamp: Lamp) -> io::Result<()> {
+    print_gear(rt, gear)?;
+    print_lamp(rt, lamp)?;
+    let word = sent(rt, gear, number)?;
     let single = turned(word, 0);
-    show_reading(word);
-    show_reading(single);
-    show_reading(turned(single, 8));
-    print(b"\n");
+    show_reading(rt, word)?;
+    show_reading(rt, single)?;
+    show_reading(rt, turned(single, 8))?;
+    print(rt, b"\n")
 }
 
-pub fn show_pairs() {
+pub fn show_pairs(rt: &impl Print) -> io::Result<()> {
     for gear in 0..8u32 {
-        show_pair(gear, 0, Lamp::Dark);
-        show_pair(gear, 1, Lamp::Green);
-        show_pair(gear, 2, Lamp::Amber);
+        show_pair(rt, gear, 0, Lamp::Dark)?;
+        show_pair(rt, gear, 1, Lamp::Green)?;
+        show_pair(rt, gear, 2, Lamp::Amber)?;
     }
+    Ok(())
 }

@@ -1,6 +1,7 @@
 // Card T with its last place hidden, which is a message column: a row travels in 15 bits. Then a check column is hidden, which is refused.
 use crate::{TOY, print, print_number, print_ones, print_outcome, print_recovery, toy};
 use refusals::{Counted, Outcome};
+use std::io;
 
 // Marks that hide one place.
 fn hiding(place: usize) -> [u8; 16] {
@@ -11,35 +12,35 @@ fn hiding(place: usize) -> [u8; 16] {
     hidden
 }
 
-fn show_roles(hidden: &[u8]) {
+fn show_roles(rt: &impl Print, hidden: &[u8]) -> io::Result<()> {
     let mut roles: [u8; 16] = [0; 16];
     let counted = words::roles(toy(), &TOY, hidden, &mut roles);
     match counted {
         Counted::Count(k) => {
-            print(b" k");
-            print_number(k as u64);
-            print(b", message columns");
-            print_ones(&roles);
+            print(rt, b" k")?;
+            print_number(rt, k as u64)?;
+            print(rt, b", message columns")?;
+            print_ones(rt, &roles)
         }
-        Counted::Refused(number) => print_outcome(Outcome::Refused(number)),
+        Counted::Refused(number) => print_outcome(rt, Outcome::Refused(number)),
     }
 }
 
-pub fn show_short() {
+pub fn show_short(rt: &impl Print) -> io::Result<()> {
     let hidden = hiding(15);
-    print(b"place 15 hidden:");
-    show_roles(&hidden);
+    print(rt, b"place 15 hidden:")?;
+    show_roles(rt, &hidden)?;
     let mut word: [u8; 15] = [0; 15];
     rows::write_row(toy(), &TOY, &hidden, 1, 0, &mut word);
-    print(b"first, dark: ones at");
-    print_ones(&word);
+    print(rt, b"first, dark: ones at")?;
+    print_ones(rt, &word)?;
     let mut received = word;
     received[0] = 1 - received[0] % 2;
     received[8] = 1 - received[8] % 2;
-    print(b"with 0 and 8 turned:");
+    print(rt, b"with 0 and 8 turned:")?;
     let mut repaired: [u8; 15] = [0; 15];
     let recovery = repair::repair(toy(), &TOY, &hidden, &received, &mut repaired);
-    print_recovery(recovery, &repaired);
-    print(b"place 0 hidden:");
-    show_roles(&hiding(0));
+    print_recovery(rt, recovery, &repaired)?;
+    print(rt, b"place 0 hidden:")?;
+    show_roles(rt, &hiding(0))
 }

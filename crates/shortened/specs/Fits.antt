@@ -3,7 +3,7 @@ use Rattle.std.specs.Prelude.{◌≡◌, true, false, List, ℕ, ◌<◌, length
 use Rattle.slices.specs.Bits.{Bits}
 use Rattle.params.specs.declared.Parameters.{Parameters}
 use Rattle.parity.specs.Columns.{is_message_column}
-use Rattle.columns.specs.Choice.{all_places, all_columns}
+use Rattle.columns.specs.Choice.{all_columns}
 use Rattle.columns.specs.Fits.{ChoiceFits}
 use Rattle.shortened.specs.Marks.{is_sent}
 use Rattle.shortened.specs.Setting.{Setting}

@@ -4,7 +4,7 @@ use Rattle.std.proofs.Common.{sym, ap, ◌∙◌, subst, le_of_eq, arith, ext_ge
 use Rattle.std.proofs.Math.Bool.{cond}
 use Rattle.std.proofs.Math.Seq.{take_all}
 use Rattle.algebra.specs.Lists.{entry_of}
-use Rattle.algebra.specs.Places.{count, chosen}
+use Rattle.algebra.specs.Places.{count}
 use Rattle.algebra.specs.PlaceLaws.{length-chosen, chosen_cong, chosen_placed, count-le}
 use Rattle.algebra.specs.Subsequence.{Comes, comes, chosen_at, entry_chosen, count_below, count_orders}
 use Rattle.algebra.specs.TabulateLaws.{length-tabulate, get_d_tabulate}

@@ -1,7 +1,7 @@
 -- A setting with nothing hidden: the places and the columns are all of them, and of the marks' rules the length of the words alone is left.
-use Rattle.std.specs.Prelude.{◌≡◌, refl, true, false, ◌&&◌, List, [], ◌∷◌, ◌++◌, ℕ, zero, suc, ◌+◌, ◌<◌, length}
+use Rattle.std.specs.Prelude.{◌≡◌, refl, true, ◌&&◌, List, [], ◌∷◌, ◌++◌, ℕ, zero, suc, ◌+◌, ◌<◌, length}
 use Rattle.std.proofs.Math.Path.{sym, ap}
-use Rattle.std.proofs.Common.{ap₂, ◌∙◌, subst, append_assoc, add-one, arith, lit<, eq-eqb}
+use Rattle.std.proofs.Common.{◌∙◌, subst, append_assoc, add-one, lit<, eq-eqb}
 use Rattle.std.proofs.Math.Bool.{Bool}
 use Rattle.std.proofs.lemmas.Bool.{false≢true}
 use Rattle.std.proofs.Math.Dec.{eqb}
@@ -20,7 +20,7 @@ use Rattle.columns.specs.ChoiceLaws.{choice_numbered, length_all}
 use Rattle.columns.specs.Fits.{ChoiceFits}
 use Rattle.shortened.specs.Fits.{Hides, Fits}
 use Rattle.shortened.specs.Marks.{is_sent, sent_count, sent_of, hides_messages, sent_dimension, mark_rules}
-use Rattle.shortened.specs.Setting.{Setting, places, columns_of, setting_rules}
+use Rattle.shortened.specs.Setting.{places, columns_of, setting_rules}
 use Rattle.shortened.specs.SettingLaws.{hidden_pass_lem}
 use Rattle.shortened.specs.Unhidden.{unhidden}
 

@@ -1,8 +1,7 @@
 -- What holds where a setting refuses nothing: the code is accepted, the selection is one, message columns alone are hidden, and the sent places stand
 -- for columns of the code, each at most once.
-use Rattle.std.specs.Prelude.{◌≡◌, refl, ◌↔◌, Bool, true, false, cond, ◌&&◌, ◌||◌, List, [], ◌∷◌, ◌++◌, ℕ, ◌<◌, ◌≤◌, T, eqb, length}
+use Rattle.std.specs.Prelude.{◌≡◌, refl, ◌↔◌, Bool, true, false, cond, ◌&&◌, ◌||◌, List, [], ◌∷◌, ◌++◌, ℕ, ◌<◌, ◌≤◌, T, length}
 use Rattle.std.proofs.Common.{sym, ap, ◌∙◌, subst, arith, eq-eqb, eqb-true}
-use Rattle.std.proofs.lemmas.Bool.{false≢true}
 use Rattle.algebra.specs.AllLaws.{all_is, all_true}
 use Rattle.refusals.specs.Rules.{Rule, ◌unless◌, fault, numbered}
 use Rattle.refusals.specs.RuleLaws.{fault_here, fault_past, fault_empty, fault_none, fault_first, fault_rest, first_holds, hold, numbered_both}
@@ -14,9 +13,8 @@ use Rattle.parity.specs.Columns.{is_message_column}
 use Rattle.parity.specs.Selected.{Selected, OnColumns, columns_short}
 use Rattle.columns.specs.Choice.{all_places, all_columns, choice_rules}
 use Rattle.columns.specs.ChoiceLaws.{choice_numbered, choice_accepted, choice_accepts, choice_fault, length_all, all_distinct}
-use Rattle.columns.specs.Fits.{ChoiceFits}
 use Rattle.shortened.specs.Fits.{Hides, Fits}
-use Rattle.shortened.specs.Marks.{is_sent, sent_count, sent_of, hidden_pass, hides_messages, mark_rules}
+use Rattle.shortened.specs.Marks.{is_sent, hidden_pass, hides_messages, mark_rules}
 use Rattle.shortened.specs.MarkLaws.{length_sent, sent_selected}
 use Rattle.shortened.specs.Setting.{Setting, places, columns_of, is_marked, setting_rules}
 

@@ -2,7 +2,7 @@
 -- and no column changes its role, since those that are hidden are message columns.
 use Rattle.std.specs.Prelude.{◌≡◌, ◌↔◌, Bool, ◌&&◌, List, ℕ, ◌+◌, ◌-◌, ◌<◌, length}
 use Rattle.std.proofs.Math.Path.{refl, sym, ap, subst}
-use Rattle.std.proofs.Common.{ap₂, ◌∙◌}
+use Rattle.std.proofs.Common.{◌∙◌}
 use Rattle.std.proofs.Math.Bool.{true, false, cond, not}
 use Rattle.std.proofs.lemmas.Bool.{false≢true}
 use native.Mathlib.Omega.{arith}
@@ -10,7 +10,6 @@ use Rattle.std.proofs.Math.Dec.{eqb}
 use borrow.Author.Tests.{not-true}
 use Rattle.algebra.specs.AllLaws.{all_cong}
 use Rattle.algebra.specs.Echelon.{dot, Solves, Inside, Echelon}
-use Rattle.algebra.specs.Field.{Ops, Laws}
 use Rattle.algebra.specs.FieldLaws.{mul-nought}
 use Rattle.algebra.specs.Gf2.{gf2}
 use Rattle.algebra.specs.Gf2Laws.{gf2_laws}
@@ -26,7 +25,7 @@ use Rattle.field.specs.Gf.{Width, gf}
 use Rattle.field.specs.GfLaws.{gf_laws}
 use Rattle.params.specs.declared.Parameters.{Parameters}
 use Rattle.parity.specs.Columns.{is_sum, is_message_column, dimension, message_of}
-use Rattle.parity.specs.Encoding.{e, basis}
+use Rattle.parity.specs.Encoding.{basis}
 use Rattle.parity.specs.Parity.{Checks}
 use Rattle.parity.specs.Systematic.{Basis, sum_is_free}
 use Rattle.parity.specs.Word.{held, parity_at, syndrome_at, syndrome_of, is_code_word}

@@ -1,10 +1,10 @@
 -- Two codes with the same parity check matrix, shortened at the same places: the same marks are refused, and the matrix is the same again.
 use Rattle.std.specs.Prelude.{◌≡◌, Bool, ◌&&◌, ◌||◌, List, [], ◌∷◌, ℕ, ◌<◌, length}
-use Rattle.std.proofs.Common.{sym, ap₂, ◌∙◌, subst}
+use Rattle.std.proofs.Common.{sym, ◌∙◌, subst}
 use Rattle.std.proofs.Math.Path.{ap}
 use Rattle.algebra.specs.AllLaws.{all_cong}
 use Rattle.algebra.specs.PlaceLaws.{count_tests}
-use Rattle.refusals.specs.Rules.{Rule, ◌unless◌}
+use Rattle.refusals.specs.Rules.{◌unless◌}
 use Rattle.slices.specs.Bits.{all_bits}
 use Rattle.params.specs.declared.Parameters.{Parameters}
 use Rattle.parity.specs.Columns.{is_message_column}

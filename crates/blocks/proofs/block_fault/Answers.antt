@@ -1,6 +1,5 @@
 -- `block_fault` meets its contract: the number for the sizes stands, and where there is none the elements are looked at.
 use mathlib.Core.Path.{sym, ◌∙◌}
-use borrow.Author.Rules.{rules}
 use Rattle.algebra.specs.Flags.{found_false, found_true}
 use Rattle.refusals.specs.RuleLaws.{fault_here, fault_none}
 use Rattle.blocks.specs.Answers.{block_rules, block_fault}

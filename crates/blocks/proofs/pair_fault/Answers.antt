@@ -1,6 +1,5 @@
 -- `pair_fault` meets its contract: the number for the sizes stands, and where there is none the second length and the elements are looked at.
 use mathlib.Core.Path.{sym, ◌∙◌}
-use borrow.Author.Rules.{rules}
 use borrow.Author.Tests.{eq-eqb, ne_eqb}
 use Rattle.algebra.specs.Flags.{found_false, found_true}
 use Rattle.refusals.specs.RuleLaws.{fault_here, fault_past, fault_none}

@@ -1,6 +1,5 @@
 -- `product` meets its contract: its rules give what the inner product asks, and what that adds to the cleared buffer is the product.
 use mathlib.Core.Path.{sym, ◌∙◌}
-use borrow.Author.Rules.{rules}
 use Rattle.refusals.specs.RuleLaws.{refuse, accept}
 use Rattle.refusals.specs.declared.Outcome.TheVariants.{Refused}
 use Rattle.blocks.specs.Answers.{product_answer, product_after}

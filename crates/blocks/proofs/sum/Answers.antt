@@ -1,6 +1,5 @@
 -- `sum` meets its contract: its rules give what the inner sum asks.
 use mathlib.Core.Path.{sym, ◌∙◌}
-use borrow.Author.Rules.{rules}
 use Rattle.refusals.specs.RuleLaws.{refuse, accept}
 use Rattle.refusals.specs.declared.Outcome.TheVariants.{Refused}
 use Rattle.blocks.specs.Answers.{sum_answer, sum_after}

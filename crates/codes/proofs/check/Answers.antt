@@ -3,7 +3,6 @@ use mathlib.Core.Path.{sym, ap, ◌∙◌}
 use Prim.Native.Nat.{ℕ, ◌≤◌}
 use native.Mathlib.Omega.{arith}
 use lib.ListN.{length}
-use borrow.Author.Rules.{rules}
 use Rattle.algebra.specs.Tabulate.{tabulate}
 use Rattle.refusals.specs.RuleLaws.{refuse, given}
 use Rattle.refusals.specs.declared.Outcome.TheVariants.{Refused}

@@ -1,6 +1,5 @@
 -- `same` meets its contract: the lower number of the two codes, or what the comparison gives.
 use mathlib.Core.Path.{sym, ap, ap₂, ◌∙◌}
-use borrow.Author.Rules.{rules}
 use Rattle.refusals.specs.RuleLaws.{refuse, accept}
 use Rattle.codes.specs.declared.Sameness.TheVariants.{Refused}
 use Rattle.codes.specs.Answers.{lowest, compared, same_fault, same_answer}

@@ -1,10 +1,8 @@
 -- `same_entries` meets its contract: lists of one length are scanned.
-use mathlib.Core.Path.{◌≡◌, refl}
-use Prim.Native.Nat.{◌-◌}
+use mathlib.Core.Path.{refl}
 use native.Mathlib.Omega.{arith}
 use lib.ListN.{length}
-use borrow.Author.Rules.{rules}
-use Rattle.algebra.specs.Scanning.{Scanning, scanning_start}
+use Rattle.algebra.specs.Scanning.{scanning_start}
 use Rattle.algebra.specs.Lists.{same_entry}
 use Rattle.codes.proofs.Comparing.{other_length, other_entry, same_entry_lem, no_other}
 use Rattle.codes.proofs.same_entries.Goals as goal

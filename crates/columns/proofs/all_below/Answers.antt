@@ -1,14 +1,10 @@
 -- `all_below` meets its contract: it scans the numbers.
-use mathlib.Core.Path.{◌≡◌, refl}
-use Prim.Native.Nat.{◌-◌}
+use mathlib.Core.Path.{refl}
 use native.Mathlib.Omega.{arith}
 use borrow.Author.Tests.{le-ltb, lt-ltb}
-use lib.Dec.{ltb}
 use lib.ListN.{length}
-use Rattle.algebra.specs.Scanning.{Scanning, scanning_start, scanning_turn, scanning_fails, scanning_end}
-use Rattle.algebra.specs.Lists.{entry_of}
+use Rattle.algebra.specs.Scanning.{scanning_start, scanning_turn, scanning_fails, scanning_end}
 use Rattle.columns.specs.Choice.{all_below}
-use borrow.Author.Rules.{rules}
 use Rattle.columns.proofs.all_below.Goals as goal
 
 pub loop-i-init : goal.loop-i-init

@@ -8,7 +8,6 @@ use native.Mathlib.Omega.{arith}
 use lib.Dec.{eqb}
 use borrow.Author.Tests.{eqb-true, eq-eqb, ne_eqb}
 use Rattle.algebra.specs.Flags.{both_true, both_hold, refuted}
-use borrow.Author.Rules.{rules}
 use Rattle.columns.proofs.is_parts_length.Goals as goal
 
 -- empty parts make an empty whole

@@ -1,9 +1,5 @@
 -- `named_once` meets its contract: it marks each block that it meets, so a block that is marked already is named twice.
-use Prim.Native.Nat.{◌-◌}
-use native.Mathlib.Omega.{arith}
-use lib.ListN.{length}
-use borrow.Author.Rules.{rules}
-use Rattle.columns.proofs.Naming.{Naming, naming_start, naming_fails, naming_turn, naming_end}
+use Rattle.columns.proofs.Naming.{Naming}
 use Rattle.columns.proofs.named_once.Given as goal
 
 abbrev pub invariant-loop-b : goal.invariant-loop-b

@@ -1,7 +1,7 @@
 -- `select_columns` meets its contract, place by place.
 use mathlib.Core.Path.{◌≡◌, refl, ap, ap₂, ◌∙◌}
 use mathlib.Core.List.{List}
-use Prim.Native.Nat.{ℕ, ◌*◌, ◌/◌, ◌-◌, ◌<◌, ◌≤◌}
+use Prim.Native.Nat.{ℕ, ◌*◌, ◌/◌, ◌<◌}
 use native.Mathlib.Nat.{div-lt_iff_lt-mul}
 use native.Mathlib.Omega.{arith}
 use lib.ListN.{length, take, drop, set}
@@ -11,7 +11,6 @@ use Rattle.algebra.specs.TabulateLaws.{length-tabulate}
 use Rattle.algebra.specs.Filling.{filled, filled_start, filled_turn, length-filled}
 use Rattle.columns.specs.Listed.{Selecting}
 use Rattle.columns.specs.Choice.{selected_column}
-use borrow.Author.Rules.{rules}
 use Rattle.columns.proofs.select_columns.Goals as goal
 
 -- the block that a place stands in

@@ -2,7 +2,6 @@
 use native.Mathlib.Omega.{arith}
 use Rattle.refusals.specs.Answered.{counted_apart}
 use Rattle.columns.proofs.Beginning.{code_refused, some_roots, few_blocks, selection_refused, selecting, word_short, selection_listed}
-use borrow.Author.Rules.{rules}
 use Rattle.columns.proofs.selected_columns.Goals as goal
 
 pub returns-then-number-ne0 : goal.returns-then-number-ne0

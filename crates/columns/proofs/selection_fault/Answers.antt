@@ -7,7 +7,6 @@ use Rattle.refusals.specs.RuleLaws.{fault_here, fault_past, fault_none}
 use Rattle.slices.specs.Lengths.{longest}
 use Rattle.columns.specs.Choice.{has_lengths, selection_rules}
 use Rattle.columns.specs.ChoiceLaws.{below_is}
-use borrow.Author.Rules.{rules}
 use Rattle.columns.proofs.selection_fault.Goals as goal
 
 pub returns-then-not-long-count : goal.returns-then-not-long-count

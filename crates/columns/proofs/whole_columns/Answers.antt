@@ -2,7 +2,6 @@
 use native.Mathlib.Omega.{arith}
 use Rattle.refusals.specs.Answered.{counted_apart}
 use Rattle.columns.proofs.Beginning.{whole_refused, whole_listed, whole_short}
-use borrow.Author.Rules.{rules}
 use Rattle.columns.proofs.whole_columns.Goals as goal
 
 pub returns-then-number-ne0 : goal.returns-then-number-ne0

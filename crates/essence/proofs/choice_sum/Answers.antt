@@ -1,14 +1,11 @@
 -- `choice_sum` meets its contract. The loop's invariant: `sum` is the sum of the values taken at the places passed.
-use mathlib.Core.Path.{◌≡◌, refl}
-use Prim.Native.Nat.{◌-◌}
+use mathlib.Core.Path.{refl}
 use native.Mathlib.Omega.{arith}
-use lib.ListN.{length}
-use borrow.Author.Rules.{rules}
 use Rattle.algebra.specs.Bits.{bit_at}
 use Rattle.algebra.specs.BitLaws.{bit_times_lt, bit_at_lt}
 use Rattle.algebra.specs.Xor.{◌⊕◌}
 use Rattle.field.specs.Words.{widest}
-use Rattle.essence.proofs.Choosing.{Choosing, choosing_start, choosing_turn, choosing_end}
+use Rattle.essence.proofs.Choosing.{choosing_start, choosing_turn, choosing_end}
 use Rattle.essence.proofs.choice_sum.Goals as goal
 
 pub loop-s-init : goal.loop-s-init

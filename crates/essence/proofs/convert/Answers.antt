@@ -2,8 +2,6 @@
 use mathlib.Core.Path.{refl, sym, ap₂, ◌∙◌}
 use mathlib.Core.Bool.{Bool, ◌&&◌}
 use native.Mathlib.Omega.{arith}
-use borrow.Author.Rules.{rules}
-use borrow.Author.Tests.{not-true, not-false}
 use Rattle.algebra.specs.Flags.{both_true}
 use Rattle.essence.proofs.Shaped.{entries_short}
 use Rattle.essence.proofs.Converting.{table_first, table_tells, table_entries, table_inverted}

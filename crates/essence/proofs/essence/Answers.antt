@@ -1,7 +1,6 @@
 -- `essence` meets its contract: it refuses by the signature's number, or stores the essence.
 use mathlib.Core.Path.{sym, ◌∙◌}
 use native.Mathlib.Omega.{arith}
-use borrow.Author.Rules.{rules}
 use Rattle.refusals.specs.RuleLaws.{refuse, accept}
 use Rattle.refusals.specs.declared.Outcome.TheVariants.{Refused}
 use Rattle.essence.specs.Answers.{essence_answer, essence_after}

@@ -1,6 +1,5 @@
 -- `essence_fault` meets its contract: the number of 1 to 3 stands, and where there is none the signature is looked at.
 use mathlib.Core.Path.{sym, ◌∙◌}
-use borrow.Author.Rules.{rules}
 use Rattle.refusals.specs.RuleLaws.{fault_first, fault_rest}
 use Rattle.essence.specs.Answers.{shape_rules, essence_rules, essence_fault}
 use Rattle.essence.proofs.Shaped.{shaped, shape_entries}

@@ -1,6 +1,5 @@
 -- `is_value_count` meets its contract.
 use mathlib.Core.Path.{refl}
-use borrow.Author.Rules.{rules}
 use Rattle.essence.specs.Answers.{is_value_count}
 use Rattle.essence.proofs.is_value_count.Goals as goal
 

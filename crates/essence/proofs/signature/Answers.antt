@@ -4,9 +4,8 @@ use mathlib.Core.List.{List}
 use Prim.Native.Nat.{ℕ}
 use lib.ListN.{length, replicate, take}
 use lib.Seq.{length-take-le}
-use borrow.Author.Rules.{rules}
 use Rattle.refusals.specs.Ending.{first_refuses}
-use Rattle.refusals.specs.Rules.{Rule, fault}
+use Rattle.refusals.specs.Rules.{fault}
 use Rattle.refusals.specs.declared.Outcome.TheVariants.{Refused}
 use Rattle.slices.specs.Lengths.{longest}
 use Rattle.essence.specs.Answers.{shape_rules, value_rules, signature_fault, signature_answer, signature_after}

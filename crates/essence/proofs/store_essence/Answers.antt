@@ -1,14 +1,13 @@
 -- `store_essence` meets its contract. The loop's invariant: the values before place s are stored.
-use mathlib.Core.Path.{◌≡◌, refl, ap, ap₂}
-use Prim.Native.Nat.{ℕ, suc, ◌-◌}
+use mathlib.Core.Path.{refl, ap, ap₂}
+use Prim.Native.Nat.{ℕ, ◌-◌}
 use native.Mathlib.Omega.{arith}
 use lib.ListN.{length}
 use lib.Pow.{pow_pos}
-use borrow.Author.Rules.{rules}
 use Rattle.algebra.specs.Lists.{entry_of}
 use Rattle.algebra.specs.Xor.{◌⊕◌}
 use Rattle.essence.specs.ShapeLaws.{value_count_is}
-use Rattle.essence.proofs.Storing.{reached, Storing, storing_start, storing_length, storing_last, storing_turn, storing_end}
+use Rattle.essence.proofs.Storing.{reached, storing_start, storing_length, storing_last, storing_turn, storing_end}
 use Rattle.essence.proofs.store_essence.Goals as goal
 
 pub bounds-inverses-0 : goal.bounds-inverses-0

@@ -1,14 +1,9 @@
 -- `store_essence` meets its contract. The loop's invariant: the values before place s are stored.
-use mathlib.Core.Path.{◌≡◌, refl, ap, ap₂}
-use Prim.Native.Nat.{ℕ, suc, ◌-◌}
-use native.Mathlib.Omega.{arith}
+use mathlib.Core.Path.{◌≡◌}
+use Prim.Native.Nat.{suc}
 use lib.ListN.{length}
-use lib.Pow.{pow_pos}
-use borrow.Author.Rules.{rules}
 use Rattle.algebra.specs.Lists.{entry_of}
-use Rattle.algebra.specs.Xor.{◌⊕◌}
-use Rattle.essence.specs.ShapeLaws.{value_count_is}
-use Rattle.essence.proofs.Storing.{reached, Storing, storing_start, storing_length, storing_last, storing_turn, storing_end}
+use Rattle.essence.proofs.Storing.{Storing}
 use Rattle.essence.proofs.store_essence.Given as goal
 
 abbrev pub invariant-loop-s : goal.invariant-loop-s

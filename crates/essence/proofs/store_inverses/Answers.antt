@@ -1,11 +1,7 @@
 -- `store_inverses` meets its contract: it fills the buffer with the sums of choices.
-use mathlib.Core.Path.{◌≡◌, refl}
-use Prim.Native.Nat.{ℕ, ◌+◌, ◌-◌}
+use mathlib.Core.Path.{refl}
 use native.Mathlib.Omega.{arith}
-use lib.ListN.{length}
-use borrow.Author.Rules.{rules}
-use Rattle.algebra.specs.Filling.{Filling, filling_start, filling_index, filling_length, filling_turn, filling_end}
-use Rattle.essence.specs.Choices.{choice_sum}
+use Rattle.algebra.specs.Filling.{filling_start, filling_index, filling_length, filling_turn, filling_end}
 use Rattle.essence.proofs.store_inverses.Goals as goal
 
 pub loop-i-init : goal.loop-i-init

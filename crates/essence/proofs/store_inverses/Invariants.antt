@@ -1,10 +1,8 @@
 -- `store_inverses` meets its contract: it fills the buffer with the sums of choices.
-use mathlib.Core.Path.{◌≡◌, refl}
-use Prim.Native.Nat.{ℕ, ◌+◌, ◌-◌}
-use native.Mathlib.Omega.{arith}
+use mathlib.Core.Path.{◌≡◌}
+use Prim.Native.Nat.{ℕ, ◌+◌}
 use lib.ListN.{length}
-use borrow.Author.Rules.{rules}
-use Rattle.algebra.specs.Filling.{Filling, filling_start, filling_index, filling_length, filling_turn, filling_end}
+use Rattle.algebra.specs.Filling.{Filling}
 use Rattle.essence.specs.Choices.{choice_sum}
 use Rattle.essence.proofs.store_inverses.Given as goal
 

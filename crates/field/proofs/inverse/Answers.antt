@@ -1,6 +1,5 @@
 -- `inverse` meets its contract: its rules give what the inner inverse asks.
 use mathlib.Core.Path.{sym, ap, ◌∙◌}
-use borrow.Author.Rules.{rules}
 use Rattle.field.specs.declared.Answer.TheVariants.{Element, Refused}
 use Rattle.refusals.specs.RuleLaws.{refuse, accept}
 use Rattle.field.specs.Answers.{inverse_answer}

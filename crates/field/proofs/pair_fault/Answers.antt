@@ -1,7 +1,6 @@
 -- `pair_fault` meets its contract: the first element's number stands, and where there is none the second is looked at.
 use mathlib.Core.Path.{sym, ◌∙◌}
 use mathlib.Core.List.{[], ◌∷◌}
-use borrow.Author.Rules.{rules}
 use Rattle.algebra.specs.Flags.{found_false, found_true}
 use Rattle.refusals.specs.Rules.{◌unless◌}
 use Rattle.refusals.specs.RuleLaws.{fault_here, fault_none, fault_first, fault_rest}

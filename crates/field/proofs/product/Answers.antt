@@ -1,6 +1,5 @@
 -- `product` meets its contract: its rules give what the inner product asks.
 use mathlib.Core.Path.{sym, ap, ◌∙◌}
-use borrow.Author.Rules.{rules}
 use Rattle.field.specs.declared.Answer.TheVariants.{Element, Refused}
 use Rattle.refusals.specs.RuleLaws.{refuse, accept}
 use Rattle.field.specs.Answers.{product_answer}

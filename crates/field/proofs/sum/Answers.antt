@@ -1,6 +1,5 @@
 -- `sum` meets its contract: elements are below 2^m, and so is their exclusive or.
 use mathlib.Core.Path.{sym, ◌∙◌}
-use borrow.Author.Rules.{rules}
 use Rattle.algebra.specs.Xor.{◌⊕◌}
 use Rattle.algebra.specs.XorLaws.{⊕-lt}
 use Rattle.field.specs.declared.Answer.TheVariants.{Refused}

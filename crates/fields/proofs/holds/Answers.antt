@@ -1,12 +1,11 @@
 -- `holds` meets its contract: it scans the part.
-use mathlib.Core.Path.{◌≡◌, refl}
-use Prim.Native.Nat.{◌+◌, ◌-◌}
+use mathlib.Core.Path.{refl}
+use Prim.Native.Nat.{◌+◌}
 use native.Mathlib.Omega.{arith}
 use lib.Dec.{eqb}
 use lib.ListN.{length}
-use borrow.Author.Rules.{rules}
 use borrow.Author.Tests.{eq-eqb, ne_eqb}
-use Rattle.algebra.specs.Scanning.{Scanning, scanning_start, scanning_turn, scanning_fails, scanning_end}
+use Rattle.algebra.specs.Scanning.{scanning_start, scanning_turn, scanning_fails, scanning_end}
 use Rattle.algebra.specs.Lists.{entry_of}
 use Rattle.fields.specs.Fields.{holds_at}
 use Rattle.fields.proofs.holds.Goals as goal

@@ -1,14 +1,7 @@
 -- `is_line` meets its contract: it scans the fields, and then looks for the end.
-use mathlib.Core.Path.{ap}
-use mathlib.Core.Bool.{Bool, ◌&&◌}
-use Prim.Native.Nat.{◌+◌, ◌*◌, ◌-◌}
-use native.Mathlib.Omega.{arith}
-use lib.Dec.{eqb}
-use Rattle.algebra.specs.Flags.{found_false, found_true}
-use Rattle.algebra.specs.Scanning.{Scanning, scanning_start, scanning_turn, scanning_fails, scanning_end}
-use Rattle.algebra.specs.Lists.{entry_of}
-use Rattle.fields.specs.Fields.{field_width, line_end, is_number, is_line}
-use borrow.Author.Rules.{rules}
+use Prim.Native.Nat.{◌+◌, ◌*◌}
+use Rattle.algebra.specs.Scanning.{Scanning}
+use Rattle.fields.specs.Fields.{field_width, is_number}
 use Rattle.fields.proofs.is_line.Given as goal
 
 abbrev pub invariant-loop-i : goal.invariant-loop-i

@@ -9,7 +9,6 @@ use borrow.Author.Tests.{lt-leb, le-leb}
 use Rattle.fields.specs.Fields.{field_width, greatest, number_text, number_at, holds_at, is_number}
 use Rattle.fields.specs.Reading.{length_number}
 use Rattle.fields.specs.Written.{written, written_whole}
-use borrow.Author.Rules.{rules}
 use Rattle.fields.proofs.is_number.Goals as goal
 
 -- what the number is printed as, compared with the text

@@ -1,9 +1,6 @@
 -- `put_lead` meets its contract. The loop's invariant: the bytes passed are stored, and the others are to hold `rest`.
 use native.Mathlib.Omega.{arith}
-use Prim.Native.Nat.{◌≤◌}
-use Rattle.fields.specs.Fields.{lead_text}
-use Rattle.fields.proofs.Printing.{Printing, printing_start, printing_length, printing_turn, printing_end}
-use borrow.Author.Rules.{rules}
+use Rattle.fields.proofs.Printing.{printing_start, printing_length, printing_turn, printing_end}
 use Rattle.fields.proofs.put_lead.Goals as goal
 
 pub loop-i-init : goal.loop-i-init

@@ -1,12 +1,8 @@
 -- `put_line` meets its contract. The loop's invariant: the numbers passed are printed.
-use mathlib.Core.Path.{◌≡◌, refl, sym, ap, ◌∙◌}
-use Prim.Native.Nat.{ℕ, ◌+◌, ◌*◌, ◌-◌}
-use native.Mathlib.Omega.{arith}
-use lib.ListN.{length, length-set}
-use Rattle.fields.specs.Fields.{field_width, line_end, field_text}
-use Rattle.fields.specs.Reading.{length_fields}
-use Rattle.fields.proofs.Printing.{Joining, joining_start, joining_length, joining_turn, joining_end, line_written}
-use borrow.Author.Rules.{rules}
+use mathlib.Core.Path.{◌≡◌}
+use lib.ListN.{length}
+use Rattle.fields.specs.Fields.{field_text}
+use Rattle.fields.proofs.Printing.{Joining}
 use Rattle.fields.proofs.put_line.Given as goal
 
 abbrev pub invariant-loop-i : goal.invariant-loop-i

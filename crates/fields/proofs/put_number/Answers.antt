@@ -1,6 +1,5 @@
 -- `put_number` meets its contract.
 use Rattle.fields.proofs.Printing.{number_written}
-use borrow.Author.Rules.{rules}
 use Rattle.fields.proofs.put_number.Goals as goal
 
 pub returns : goal.returns

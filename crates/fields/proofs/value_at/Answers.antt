@@ -1,11 +1,10 @@
 -- `value_at` meets its contract.
 use mathlib.Core.Path.{refl, ap, ◌∙◌}
-use Prim.Native.Nat.{◌+◌, ◌-◌}
+use Prim.Native.Nat.{◌+◌}
 use native.Mathlib.Omega.{arith}
-use borrow.Author.Rules.{rules}
 use Rattle.algebra.specs.Lists.{entry_of}
-use Rattle.fields.specs.Fields.{field_width, value_of, number_at}
-use Rattle.fields.proofs.Values.{Value, value_start, value_fits, value_turn}
+use Rattle.fields.specs.Fields.{value_of, number_at}
+use Rattle.fields.proofs.Values.{value_start, value_fits, value_turn}
 use Rattle.fields.proofs.value_at.Goals as goal
 
 pub loop-i-init : goal.loop-i-init

@@ -1,11 +1,7 @@
 -- `value_at` meets its contract.
-use mathlib.Core.Path.{refl, ap, ◌∙◌}
-use Prim.Native.Nat.{◌+◌, ◌-◌}
-use native.Mathlib.Omega.{arith}
-use borrow.Author.Rules.{rules}
+use Prim.Native.Nat.{◌+◌}
 use Rattle.algebra.specs.Lists.{entry_of}
-use Rattle.fields.specs.Fields.{field_width, value_of, number_at}
-use Rattle.fields.proofs.Values.{Value, value_start, value_fits, value_turn}
+use Rattle.fields.proofs.Values.{Value}
 use Rattle.fields.proofs.value_at.Given as goal
 
 abbrev pub invariant-loop-i : goal.invariant-loop-i

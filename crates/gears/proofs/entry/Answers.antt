@@ -1,7 +1,6 @@
 -- `entry` meets its contract: a byte fits.
 use mathlib.Core.Path.{refl}
 use native.Mathlib.Omega.{arith}
-use borrow.Author.Rules.{rules}
 use Rattle.gears.proofs.entry.Goals as goal
 
 pub overflow_cast-result : goal.overflow_cast-result

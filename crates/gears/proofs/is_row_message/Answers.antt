@@ -2,7 +2,6 @@
 use mathlib.Core.Path.{ap₂, ◌∙◌}
 use mathlib.Core.Bool.{Bool, ◌&&◌}
 use Rattle.gears.specs.Rows.{is_row, is_row_message}
-use borrow.Author.Rules.{rules}
 use Rattle.gears.proofs.is_row_message.Goals as goal
 
 pub returns : goal.returns

@@ -2,7 +2,6 @@
 use mathlib.Core.Path.{sym, ap}
 use lib.Dec.{lit<}
 use Rattle.gears.specs.Rows.{lamp_number}
-use borrow.Author.Rules.{rules}
 use Rattle.gears.proofs.lamp_number.Goals as goal
 
 pub returns-in-Dark : goal.returns-in-Dark

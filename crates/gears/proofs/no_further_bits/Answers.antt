@@ -1,15 +1,12 @@
 -- `no_further_bits` meets its contract: it scans the entries, of which the row's bits pass without a look.
-use mathlib.Core.Path.{◌≡◌, refl, ap, ap₂}
+use mathlib.Core.Path.{refl, ap, ap₂}
 use mathlib.Core.Bool.{Bool, ◌||◌}
-use Prim.Native.Nat.{◌-◌, ◌≤◌}
 use native.Mathlib.Omega.{arith}
 use borrow.Author.Tests.{eq-eqb, ne_eqb, le-ltb, lt-ltb}
-use lib.Dec.{eqb, ltb}
-use lib.ListN.{length}
-use Rattle.algebra.specs.Scanning.{Scanning, scanning_turn, scanning_fails, scanning_end}
+use lib.Dec.{eqb}
+use Rattle.algebra.specs.Scanning.{scanning_turn, scanning_fails, scanning_end}
 use Rattle.algebra.specs.Lists.{entry_of}
 use Rattle.gears.specs.Rows.{row_bits, further_zero}
-use borrow.Author.Rules.{rules}
 use Rattle.gears.proofs.no_further_bits.Goals as goal
 
 pub loop-j-init : goal.loop-j-init

@@ -1,15 +1,12 @@
 -- `no_further_bits` meets its contract: it scans the entries, of which the row's bits pass without a look.
-use mathlib.Core.Path.{◌≡◌, refl, ap, ap₂}
-use mathlib.Core.Bool.{Bool, ◌||◌}
-use Prim.Native.Nat.{◌-◌, ◌≤◌}
-use native.Mathlib.Omega.{arith}
-use borrow.Author.Tests.{eq-eqb, ne_eqb, le-ltb, lt-ltb}
+use mathlib.Core.Path.{◌≡◌}
+use mathlib.Core.Bool.{◌||◌}
+use Prim.Native.Nat.{◌≤◌}
 use lib.Dec.{eqb, ltb}
 use lib.ListN.{length}
-use Rattle.algebra.specs.Scanning.{Scanning, scanning_turn, scanning_fails, scanning_end}
+use Rattle.algebra.specs.Scanning.{Scanning}
 use Rattle.algebra.specs.Lists.{entry_of}
-use Rattle.gears.specs.Rows.{row_bits, further_zero}
-use borrow.Author.Rules.{rules}
+use Rattle.gears.specs.Rows.{row_bits}
 use Rattle.gears.proofs.no_further_bits.Given as goal
 
 abbrev pub invariant-loop-j : goal.invariant-loop-j

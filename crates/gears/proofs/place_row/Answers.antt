@@ -1,11 +1,9 @@
 -- `place_row` meets its contract, place by place.
-use mathlib.Core.Path.{◌≡◌, refl}
-use Prim.Native.Nat.{◌-◌}
+use mathlib.Core.Path.{refl}
 use native.Mathlib.Omega.{arith}
 use lib.ListN.{length}
-use Rattle.algebra.specs.Filling.{Filling, filling_start, filling_index, filling_turn, filling_length, filling_end}
+use Rattle.algebra.specs.Filling.{filling_start, filling_index, filling_turn, filling_length, filling_end}
 use Rattle.gears.specs.Rows.{row_bit, row_message}
-use borrow.Author.Rules.{rules}
 use Rattle.gears.proofs.place_row.Goals as goal
 
 pub loop-j-init : goal.loop-j-init

@@ -2,7 +2,6 @@
 use mathlib.Core.Path.{sym}
 use Rattle.algebra.specs.Bits.{bit_at}
 use Rattle.gears.specs.Messages.{row_bit-gear, row_bit-lamp, row_bit_further}
-use borrow.Author.Rules.{rules}
 use Rattle.gears.proofs.row_bit.Goals as goal
 
 pub returns-then-place-lt-GEAR_BITS : goal.returns-then-place-lt-GEAR_BITS

@@ -3,7 +3,6 @@ use mathlib.Core.Path.{ap, ap₂, ◌∙◌}
 use Prim.Native.Nat.{ℕ}
 use Rattle.gears.specs.declared.Lamp.{Lamp}
 use Rattle.gears.specs.Rows.{lamp_of, row_of}
-use borrow.Author.Rules.{rules}
 use Rattle.gears.proofs.row_in.Goals as goal
 
 pub returns : goal.returns

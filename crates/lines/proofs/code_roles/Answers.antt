@@ -4,7 +4,6 @@ use native.Mathlib.Omega.{arith}
 use Rattle.params.specs.Accepted.{n_short}
 use Rattle.parity.specs.Columns.{roles_of, dimension}
 use Rattle.parity.specs.Selected.{on_whole, as_long}
-use borrow.Author.Rules.{rules}
 use Rattle.lines.proofs.code_roles.Goals as goal
 
 pub number_columns-requires : goal.number_columns-requires

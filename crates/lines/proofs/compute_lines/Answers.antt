@@ -5,7 +5,6 @@ use Rattle.params.specs.Accepted.{n_short}
 use Rattle.params.proofs.Stored.{offset_fits}
 use Rattle.parity.specs.ColumnLaws.{message_length-le}
 use Rattle.lines.proofs.Rows.{support_held, listing_written}
-use borrow.Author.Rules.{rules}
 use Rattle.lines.proofs.compute_lines.Goals as goal
 
 pub code_support-requires : goal.code_support-requires

@@ -1,7 +1,6 @@
 -- `put_column` meets its contract.
 use native.Mathlib.Omega.{arith}
 use Rattle.lines.specs.Listing.{column_line}
-use borrow.Author.Rules.{rules}
 use Rattle.lines.proofs.put_column.Goals as goal
 
 pub overflow_cast-line-2 : goal.overflow_cast-line-2

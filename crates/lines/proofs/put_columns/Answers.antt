@@ -1,13 +1,11 @@
 -- `put_columns` meets its contract. The loop's invariant: the lines of the columns passed are printed.
-use mathlib.Core.Path.{◌≡◌, refl, sym, ap, ◌∙◌}
-use Prim.Native.Nat.{ℕ, ◌+◌, ◌*◌, ◌-◌}
+use mathlib.Core.Path.{refl, sym, ap, ◌∙◌}
+use Prim.Native.Nat.{ℕ, ◌+◌}
 use native.Mathlib.Omega.{arith}
 use lib.ListN.{length}
-use Rattle.fields.specs.Fields.{line_length}
-use Rattle.fields.proofs.Printing.{Joining, joining_start, joining_length, joining_turn, joining_end}
+use Rattle.fields.proofs.Printing.{joining_start, joining_length, joining_turn, joining_end}
 use Rattle.lines.specs.Lengths.{length_columns}
 use Rattle.lines.specs.Listing.{column_line}
-use borrow.Author.Rules.{rules}
 use Rattle.lines.proofs.put_columns.Goals as goal
 
 pub loop-j-init : goal.loop-j-init

@@ -1,13 +1,10 @@
 -- `put_columns` meets its contract. The loop's invariant: the lines of the columns passed are printed.
-use mathlib.Core.Path.{◌≡◌, refl, sym, ap, ◌∙◌}
-use Prim.Native.Nat.{ℕ, ◌+◌, ◌*◌, ◌-◌}
-use native.Mathlib.Omega.{arith}
+use mathlib.Core.Path.{◌≡◌}
+use Prim.Native.Nat.{◌+◌, ◌*◌}
 use lib.ListN.{length}
 use Rattle.fields.specs.Fields.{line_length}
-use Rattle.fields.proofs.Printing.{Joining, joining_start, joining_length, joining_turn, joining_end}
-use Rattle.lines.specs.Lengths.{length_columns}
+use Rattle.fields.proofs.Printing.{Joining}
 use Rattle.lines.specs.Listing.{column_line}
-use borrow.Author.Rules.{rules}
 use Rattle.lines.proofs.put_columns.Given as goal
 
 abbrev pub invariant-loop-j : goal.invariant-loop-j

@@ -1,7 +1,6 @@
 -- `put_lines` meets its contract.
 use Rattle.lines.specs.Listing.{code_line}
 use Rattle.lines.proofs.Rows.{lines_written}
-use borrow.Author.Rules.{rules}
 use Rattle.lines.proofs.put_lines.Goals as goal
 
 pub returns : goal.returns

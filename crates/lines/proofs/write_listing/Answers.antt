@@ -2,7 +2,6 @@
 use mathlib.Core.Path.{sym}
 use Rattle.params.specs.Accepted.{n_short}
 use Rattle.lines.proofs.Rows.{n_taken}
-use borrow.Author.Rules.{rules}
 use Rattle.lines.proofs.write_listing.Goals as goal
 
 pub slice_bounds-support-end : goal.slice_bounds-support-end

@@ -6,7 +6,6 @@ use Rattle.sheets.specs.Fault.{sheet_rules, sheet_fault}
 use Rattle.sheets.specs.Laws.{sheet_numbered}
 use Rattle.listing.specs.Answers.{room_rules, stored_answer, stored_after, sheet_listing}
 use Rattle.listing.specs.Answers.{listing_fault, listing_answer, listing_after}
-use borrow.Author.Rules.{rules}
 use Rattle.listing.proofs.listing.Goals as goal
 
 pub returns-then-number-ne0 : goal.returns-then-number-ne0

@@ -8,7 +8,6 @@ use Rattle.fields.specs.Fields.{line_text}
 use Rattle.fields.specs.Reading.{length_line}
 use Rattle.fields.specs.Written.{written_over}
 use Rattle.listing.specs.Laws.{stored_short, stored_done}
-use borrow.Author.Rules.{rules}
 use Rattle.listing.proofs.number_line.Goals as goal
 
 pub returns-then-out : goal.returns-then-out

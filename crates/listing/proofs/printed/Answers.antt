@@ -5,7 +5,6 @@ use Prim.Native.Nat.{ℕ}
 use Rattle.refusals.specs.RuleLaws.{refuse, accept}
 use Rattle.fields.specs.Fields.{line_text}
 use Rattle.listing.specs.Answers.{stored_answer, stored_after, sheet_listing, printed_text, printed_answer, printed_after}
-use borrow.Author.Rules.{rules}
 use Rattle.listing.proofs.printed.Goals as goal
 
 pub returns-then-number-ne0 : goal.returns-then-number-ne0

@@ -12,7 +12,6 @@ use Rattle.sheets.proofs.Held.{n_small, n_is, code_held}
 use Rattle.listing.specs.Answers.{sheet_listing}
 use Rattle.listing.specs.Laws.{stored_short, stored_done}
 use Rattle.listing.proofs.Sheets.{listing_on_sheet, length_sheet_listing}
-use borrow.Author.Rules.{rules}
 use Rattle.listing.proofs.sheet_listing.Goals as goal
 
 pub parameters_of-c-requires : goal.parameters_of-c-requires

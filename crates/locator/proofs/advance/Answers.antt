@@ -2,7 +2,6 @@
 use native.Mathlib.Nat.{le_of_lt}
 use native.Mathlib.Omega.{arith}
 use Rattle.locator.proofs.Turns.{chosen_first, chosen_second, advanced_first, advanced_second}
-use borrow.Author.Rules.{rules}
 use Rattle.locator.proofs.advance.Goals as goal
 
 pub discrepancy-a-requires : goal.discrepancy-a-requires

@@ -1,7 +1,6 @@
 -- `discrepancy` meets its contract.
 use Rattle.algebra.specs.Xor.{◌⊕◌}
 use Rattle.locator.proofs.Values.{slope_element, discrepancy_value}
-use borrow.Author.Rules.{rules}
 use Rattle.locator.proofs.discrepancy.Goals as goal
 
 pub product-requires-2 : goal.product-requires-2

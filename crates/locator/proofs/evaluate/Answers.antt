@@ -1,8 +1,7 @@
 -- `evaluate` meets its contract. The loop's invariant: `value` is that of the coefficients from k on.
 use native.Mathlib.Omega.{arith}
 use Rattle.algebra.specs.Xor.{◌⊕◌}
-use Rattle.locator.proofs.Loops.{Evaluating, evaluate_empty, evaluate_start, evaluate_turn, evaluate_end}
-use borrow.Author.Rules.{rules}
+use Rattle.locator.proofs.Loops.{evaluate_empty, evaluate_start, evaluate_turn, evaluate_end}
 use Rattle.locator.proofs.evaluate.Goals as goal
 
 pub returns-then-n-eq0 : goal.returns-then-n-eq0

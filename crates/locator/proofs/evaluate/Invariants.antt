@@ -1,8 +1,5 @@
 -- `evaluate` meets its contract. The loop's invariant: `value` is that of the coefficients from k on.
-use native.Mathlib.Omega.{arith}
-use Rattle.algebra.specs.Xor.{◌⊕◌}
-use Rattle.locator.proofs.Loops.{Evaluating, evaluate_empty, evaluate_start, evaluate_turn, evaluate_end}
-use borrow.Author.Rules.{rules}
+use Rattle.locator.proofs.Loops.{Evaluating}
 use Rattle.locator.proofs.evaluate.Given as goal
 
 abbrev pub invariant-loop-k : goal.invariant-loop-k

@@ -4,7 +4,6 @@ use Prim.Native.Nat.{ℕ}
 use lib.Dec.{eqb}
 use Rattle.algebra.specs.Xor.{◌⊕◌}
 use Rattle.locator.proofs.Values.{value_at}
-use borrow.Author.Rules.{rules}
 use Rattle.locator.proofs.is_root.Goals as goal
 
 pub returns : goal.returns

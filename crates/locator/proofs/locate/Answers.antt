@@ -2,7 +2,6 @@
 use mathlib.Core.Path.{sym, ◌∙◌}
 use native.Mathlib.Omega.{arith}
 use Rattle.locator.proofs.Turns.{located_first, located_copied}
-use borrow.Author.Rules.{rules}
 use Rattle.locator.proofs.locate.Goals as goal
 
 pub copy-requires : goal.copy-requires

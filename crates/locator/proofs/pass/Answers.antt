@@ -1,11 +1,7 @@
 -- `pass` meets its contract. The loop's invariant: the pass after the roots so far.
-use mathlib.Core.Path.{◌≡◌, refl, sym, ◌∙◌}
-use Prim.Native.Nat.{◌-◌, ◌≤◌}
+use mathlib.Core.Path.{refl, sym, ◌∙◌}
 use native.Mathlib.Omega.{arith}
-use lib.ListN.{length}
-use Rattle.locator.specs.Coefficients.{Passed}
 use Rattle.locator.proofs.Turns.{passed_none, passed_more, passed_all}
-use borrow.Author.Rules.{rules}
 use Rattle.locator.proofs.pass.Goals as goal
 
 pub start-requires : goal.start-requires

@@ -1,11 +1,9 @@
 -- `raise` meets its contract. The loop's invariant: the coefficients passed are raised, `lower` is the last of them as it was, and so is the rest.
-use mathlib.Core.Path.{◌≡◌, refl}
-use Prim.Native.Nat.{◌+◌, ◌-◌}
+use mathlib.Core.Path.{refl}
 use native.Mathlib.Omega.{arith}
 use Rattle.algebra.specs.Filling.{filling_length}
 use Rattle.algebra.specs.Xor.{◌⊕◌}
-use Rattle.locator.proofs.Loops.{Raising, raise_start, raise_index, raise_element, raise_turn, raise_end}
-use borrow.Author.Rules.{rules}
+use Rattle.locator.proofs.Loops.{raise_start, raise_index, raise_element, raise_turn, raise_end}
 use Rattle.locator.proofs.raise.Goals as goal
 
 pub overflow_add-k-end : goal.overflow_add-k-end

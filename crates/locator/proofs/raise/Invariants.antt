@@ -1,11 +1,7 @@
 -- `raise` meets its contract. The loop's invariant: the coefficients passed are raised, `lower` is the last of them as it was, and so is the rest.
-use mathlib.Core.Path.{◌≡◌, refl}
-use Prim.Native.Nat.{◌+◌, ◌-◌}
-use native.Mathlib.Omega.{arith}
-use Rattle.algebra.specs.Filling.{filling_length}
-use Rattle.algebra.specs.Xor.{◌⊕◌}
-use Rattle.locator.proofs.Loops.{Raising, raise_start, raise_index, raise_element, raise_turn, raise_end}
-use borrow.Author.Rules.{rules}
+use mathlib.Core.Path.{◌≡◌}
+use Prim.Native.Nat.{◌+◌}
+use Rattle.locator.proofs.Loops.{Raising}
 use Rattle.locator.proofs.raise.Given as goal
 
 abbrev pub invariant-loop-k : goal.invariant-loop-k

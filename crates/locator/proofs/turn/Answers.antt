@@ -1,7 +1,6 @@
 -- `turn` meets its contract: the other pair takes what it needs of the pivot while the pivot is as it was, half by half.
 use native.Mathlib.Omega.{arith}
 use Rattle.locator.proofs.Turns.{half_weaken, spare_even, spare_odd, turned}
-use borrow.Author.Rules.{rules}
 use Rattle.locator.proofs.turn.Goals as goal
 
 pub combine-requires : goal.combine-requires

@@ -3,7 +3,6 @@ use native.Mathlib.Omega.{arith}
 use Rattle.params.specs.Accepted.{n_short, t_short}
 use Rattle.parity.specs.Parity.{reaches}
 use Rattle.messages.proofs.Meaning.{code_basis_is, rank-le}
-use borrow.Author.Rules.{rules}
 use Rattle.messages.proofs.code_basis.Goals as goal
 
 pub parity_basis-requires : goal.parity_basis-requires

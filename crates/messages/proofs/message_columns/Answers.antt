@@ -1,7 +1,6 @@
 -- `message_columns` meets its contract.
 use native.Mathlib.Omega.{arith}
 use Rattle.messages.proofs.Meaning.{room}
-use borrow.Author.Rules.{rules}
 use Rattle.messages.proofs.message_columns.Goals as goal
 
 pub code_basis-requires : goal.code_basis-requires

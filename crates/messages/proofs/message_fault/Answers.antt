@@ -1,7 +1,6 @@
 -- `message_fault` meets its contract: each return is at the first rule that does not hold.
 use mathlib.Core.Path.{sym}
 use borrow.Author.Tests.{eq-eqb, ne_eqb}
-use borrow.Author.Rules.{rules}
 use Rattle.algebra.specs.Flags.{found_false, found_true}
 use Rattle.refusals.specs.RuleLaws.{fault_here, fault_past, fault_none}
 use Rattle.messages.specs.MessageRules.{message_rules}

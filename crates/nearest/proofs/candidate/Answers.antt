@@ -8,7 +8,6 @@ use lib.Seq.{length-take-le}
 use Rattle.slices.specs.Lengths.{longest}
 use Rattle.params.specs.Accepted.{n_short}
 use Rattle.nearest.proofs.Decoding.{roots_short}
-use borrow.Author.Rules.{rules}
 use Rattle.nearest.proofs.candidate.Goals as goal
 
 -- what the arrays hold at first

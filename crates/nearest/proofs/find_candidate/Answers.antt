@@ -9,7 +9,6 @@ use Rattle.basis.specs.Table.{Reaches}
 use Rattle.parity.specs.Parity.{reaches}
 use Rattle.nearest.proofs.Decoding.{summed, root_points, support_in, column_in, roots_stored, support_stored}
 use Rattle.nearest.proofs.Decoding.{syndrome_stored, syndrome_fits, candidate_found}
-use borrow.Author.Rules.{rules}
 use Rattle.nearest.proofs.find_candidate.Goals as goal
 
 pub overflow_cast-omega : goal.overflow_cast-omega

@@ -1,14 +1,12 @@
 -- `is_code_word` meets its contract: it scans the rows.
-use mathlib.Core.Path.{◌≡◌, refl, sym, ◌∙◌}
-use Prim.Native.Nat.{◌-◌}
+use mathlib.Core.Path.{refl, sym, ◌∙◌}
 use native.Mathlib.Omega.{arith}
 use borrow.Author.Tests.{eq-eqb, ne_eqb}
 use lib.Dec.{eqb}
-use Rattle.algebra.specs.Scanning.{Scanning, scanning_start, scanning_turn, scanning_fails, scanning_end}
+use Rattle.algebra.specs.Scanning.{scanning_start, scanning_turn, scanning_fails, scanning_end}
 use Rattle.parity.specs.Parity.{reaches, signature_syndrome}
 use Rattle.parity.specs.Word.{syndrome_at, is_code_word}
 use Rattle.nearest.proofs.Decoding.{summed}
-use borrow.Author.Rules.{rules}
 use Rattle.nearest.proofs.is_code_word.Goals as goal
 
 pub loop-i-init : goal.loop-i-init

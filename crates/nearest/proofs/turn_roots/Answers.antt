@@ -1,8 +1,7 @@
 -- `turn_roots` meets its contract, place by place.
 use mathlib.Core.Path.{◌≡◌, refl, sym, ap, ◌∙◌}
 use mathlib.Core.Bool.{true, false}
-use mathlib.Core.Logic.{⊎_elim}
-use Prim.Native.Nat.{ℕ, ◌-◌}
+use Prim.Native.Nat.{ℕ}
 use native.Mathlib.Nat.{add-zero}
 use native.Mathlib.Omega.{arith}
 use lib.ListN.{length}
@@ -12,8 +11,7 @@ use Rattle.algebra.specs.XorLaws.{⊕-zero}
 use Rattle.algebra.specs.Places.{count}
 use Rattle.nearest.specs.Decoding.{root_place}
 use Rattle.nearest.specs.Turned.{turned}
-use Rattle.nearest.proofs.Decoding.{Turning, turning_start, turning_turn}
-use borrow.Author.Rules.{rules}
+use Rattle.nearest.proofs.Decoding.{turning_start, turning_turn}
 use Rattle.nearest.proofs.turn_roots.Goals.{then-is_root, else-is_root}
 use Rattle.nearest.proofs.turn_roots.Goals as goal
 

@@ -1,7 +1,6 @@
 -- `code_fault_inverses` meets its contract: each part of the rules is looked at where those before it hold.
 use mathlib.Core.Path.{sym, ◌∙◌}
 use native.Mathlib.Omega.{arith}
-use borrow.Author.Rules.{rules}
 use Rattle.algebra.specs.Flags.{found_true, found_false}
 use Rattle.params.proofs.Faults.{shaped, shape_number, signature_number, roots_number, no_number}
 use Rattle.params.proofs.code_fault_inverses.Goals as goal

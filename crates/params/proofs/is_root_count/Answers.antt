@@ -3,7 +3,6 @@ use mathlib.Core.Path.{ap}
 use mathlib.Core.Bool.{Bool, ◌&&◌}
 use Prim.Native.Nat.{◌/◌}
 use lib.Dec.{leb}
-use borrow.Author.Rules.{rules}
 use Rattle.params.specs.Code.{is_root_count}
 use Rattle.params.proofs.is_root_count.Goals as goal
 

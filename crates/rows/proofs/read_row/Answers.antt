@@ -2,7 +2,6 @@
 use Rattle.shortened.specs.Begun.{both_long}
 use Rattle.shortened.specs.BegunLaws.{begun_sent}
 use Rattle.shortened.specs.Setting.{short_code}
-use borrow.Author.Rules.{rules}
 use Rattle.rows.proofs.read_row.Goals as goal
 
 pub read_row-requires : goal.read_row-requires

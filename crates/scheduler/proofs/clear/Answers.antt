@@ -1,11 +1,9 @@
 -- `clear` meets its contract, mark by mark.
-use mathlib.Core.Path.{◌≡◌, refl}
-use Prim.Native.Nat.{◌-◌}
+use mathlib.Core.Path.{refl}
 use native.Mathlib.Omega.{arith}
 use lib.ListN.{length}
-use Rattle.algebra.specs.Filling.{Filling, filling_start, filling_index, filling_turn, filling_length}
+use Rattle.algebra.specs.Filling.{filling_start, filling_index, filling_turn, filling_length}
 use Rattle.scheduler.proofs.Beginning.{cleared}
-use borrow.Author.Rules.{rules}
 use Rattle.scheduler.proofs.clear.Goals as goal
 
 pub loop-p-init : goal.loop-p-init

@@ -10,7 +10,6 @@ use Rattle.shortened.specs.Setting.{short_code, places}
 use Rattle.scheduler.specs.State.{dash_rules, offer_rules}
 use Rattle.scheduler.specs.Answers.{offer_fault, offer_answer, offer_waiting, offer_words}
 use Rattle.scheduler.proofs.Beginning.{offer_lent, offer_began, kept_wide}
-use borrow.Author.Rules.{rules}
 use Rattle.scheduler.proofs.offer.Goals as goal
 
 pub offer_on-requires : goal.offer_on-requires

@@ -3,7 +3,6 @@ use native.Mathlib.Omega.{arith}
 use lib.ListN.{length}
 use Rattle.algebra.specs.PartLaws.{length_lent, part_returned}
 use Rattle.scheduler.proofs.Beginning.{offer_refused, offer_done, offer_marked, offer_inside}
-use borrow.Author.Rules.{rules}
 use Rattle.scheduler.proofs.offer_on.Goals as goal
 
 pub returns-then-number-ne0 : goal.returns-then-number-ne0

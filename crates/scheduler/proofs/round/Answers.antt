@@ -14,7 +14,6 @@ use Rattle.scheduler.specs.Answers.{round_rules, round_fault, round_answer, wait
 use Rattle.scheduler.specs.Parts.{LentState}
 use Rattle.scheduler.specs.StateLaws.{lent_state}
 use Rattle.scheduler.proofs.Rounding.{round_began}
-use borrow.Author.Rules.{rules}
 use Rattle.scheduler.proofs.round.Goals as goal
 
 pub slice_bounds-columns-end : goal.slice_bounds-columns-end

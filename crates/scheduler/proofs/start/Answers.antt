@@ -8,7 +8,6 @@ use Rattle.shortened.specs.BegunLaws.{begun_refuses, begun_accepted, begun_ends}
 use Rattle.scheduler.specs.State.{dash_rules}
 use Rattle.scheduler.specs.Answers.{start_lengths, start_fault, start_answer, start_waiting, start_next}
 use Rattle.scheduler.proofs.Beginning.{start_lent}
-use borrow.Author.Rules.{rules}
 use Rattle.scheduler.proofs.start.Goals as goal
 
 pub start_on-requires : goal.start_on-requires

@@ -1,6 +1,5 @@
 -- `start_on` meets its contract: 18, or all marks cleared and the turn at 0.
 use Rattle.scheduler.proofs.Beginning.{start_refused, start_done}
-use borrow.Author.Rules.{rules}
 use Rattle.scheduler.proofs.start_on.Goals as goal
 
 pub returns-then-number-ne0 : goal.returns-then-number-ne0

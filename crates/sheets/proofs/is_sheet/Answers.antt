@@ -10,7 +10,6 @@ use Rattle.slices.specs.Lengths.{longest}
 use Rattle.fields.specs.Fields.{line_length, is_line}
 use Rattle.sheets.specs.Sheet.{second, sheet_n, is_sheet}
 use Rattle.sheets.specs.Reading.{n_within, sheet_long, sheet_first}
-use borrow.Author.Rules.{rules}
 use Rattle.sheets.proofs.is_sheet.Goals as goal
 
 pub returns-then-text-lt-SECOND : goal.returns-then-text-lt-SECOND

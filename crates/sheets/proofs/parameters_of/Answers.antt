@@ -1,6 +1,5 @@
 -- `parameters_of` meets its contract.
 use Rattle.sheets.specs.Reading.{parameters_are}
-use borrow.Author.Rules.{rules}
 use Rattle.sheets.proofs.parameters_of.Goals as goal
 
 pub returns : goal.returns

@@ -8,7 +8,6 @@ use Rattle.fields.specs.Fields.{is_line}
 use Rattle.sheets.specs.Sheet.{second}
 use Rattle.sheets.specs.Reading.{sheet_long, sheet_second}
 use Rattle.sheets.proofs.Held.{n_small, signature_read}
-use borrow.Author.Rules.{rules}
 use Rattle.sheets.proofs.read_signature.Goals as goal
 
 pub value_at-n-requires : goal.value_at-n-requires

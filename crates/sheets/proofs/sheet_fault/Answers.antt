@@ -9,7 +9,6 @@ use Rattle.refusals.specs.RuleLaws.{fault_here}
 use Rattle.sheets.specs.Fault.{sheet_fault, sheet_rules}
 use Rattle.sheets.specs.Reading.{sheet_long}
 use Rattle.sheets.proofs.Held.{n_small, n_is, code_on_sheet, sheet_held}
-use borrow.Author.Rules.{rules}
 use Rattle.sheets.proofs.sheet_fault.Goals as goal
 
 pub returns-then-not-is_sheet : goal.returns-then-not-is_sheet

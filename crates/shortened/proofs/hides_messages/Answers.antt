@@ -3,7 +3,6 @@ use mathlib.Core.Path.{sym, ◌∙◌}
 use native.Mathlib.Omega.{arith}
 use Rattle.parity.specs.Selected.{columns_short}
 use Rattle.shortened.proofs.Marking.{nothing_hidden, hides_by_leads}
-use borrow.Author.Rules.{rules}
 use Rattle.shortened.proofs.hides_messages.Goals as goal
 
 pub returns-then-sent_places-hidden : goal.returns-then-sent_places-hidden

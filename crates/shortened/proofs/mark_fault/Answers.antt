@@ -3,7 +3,6 @@ use mathlib.Core.Path.{refl, sym}
 use Rattle.algebra.specs.Flags.{found_true, found_false}
 use Rattle.refusals.specs.RuleLaws.{fault_here, fault_past, fault_none}
 use Rattle.shortened.specs.Marks.{mark_rules}
-use borrow.Author.Rules.{rules}
 use Rattle.shortened.proofs.mark_fault.Goals as goal
 
 pub returns-then-not-all_bits : goal.returns-then-not-all_bits

@@ -12,7 +12,6 @@ use Rattle.parity.specs.Selected.{OnColumns, columns_short}
 use Rattle.params.specs.declared.Parameters.{Parameters}
 use Rattle.shortened.specs.Marks.{sent_count, sent_of}
 use Rattle.shortened.specs.MarkLaws.{sent_le, sent_cong}
-use borrow.Author.Rules.{rules}
 use Rattle.shortened.proofs.sent_columns.Goals as goal
 
 -- a word has at most the places of the longest one

@@ -1,10 +1,6 @@
 -- `shorten` meets its contract: what refused the columns is refused, and else the marks decide.
 use native.Mathlib.Omega.{arith}
-use Prim.Native.Nat.{◌≤◌}
-use lib.ListN.{length}
-use lib.Seq.{length-take-le}
 use Rattle.shortened.proofs.Shortening.{shorten_refused, shorten_columns, shorten_begun, marks_short}
-use borrow.Author.Rules.{rules}
 use Rattle.shortened.proofs.shorten.Goals as goal
 
 pub sent_columns-requires : goal.sent_columns-requires

@@ -1,5 +1,4 @@
 -- `whole_code_inverses` meets its contract: it numbers the columns of the whole code, and shortens them.
-use mathlib.Core.Path.{refl}
 use Rattle.columns.specs.Choice.{Choice.whole_code}
 use Rattle.shortened.proofs.Shortening.{begun_listed}
 use borrow.Author.Rules.{rules}

@@ -1,11 +1,9 @@
 -- `add_each` meets its contract. The loop's invariant: what is passed is stored, and the rest is as it was.
-use mathlib.Core.Path.{◌≡◌, refl}
-use Prim.Native.Nat.{◌-◌}
+use mathlib.Core.Path.{refl}
 use native.Mathlib.Omega.{arith}
 use lib.ListN.{length}
-use borrow.Author.Rules.{rules}
 use Rattle.algebra.specs.Xor.{◌⊕◌}
-use Rattle.algebra.specs.Filling.{Filling, filling_start, filling_index, filling_turn, filling_length, filling_end}
+use Rattle.algebra.specs.Filling.{filling_start, filling_index, filling_turn, filling_length, filling_end}
 use Rattle.signature.specs.Inverses.{added}
 use Rattle.signature.proofs.add_each.Goals as goal
 

@@ -4,12 +4,11 @@ use mathlib.Core.List.{List}
 use Prim.Native.Nat.{ℕ, ◌-◌, ◌≤◌}
 use native.Mathlib.Omega.{arith}
 use lib.ListN.{length}
-use borrow.Author.Rules.{rules}
 use Rattle.algebra.specs.Filling.{get_or_stored}
-use Rattle.field.specs.Gf.{Width, gf}
+use Rattle.field.specs.Gf.{gf}
 use Rattle.signature.specs.Inverses.{before}
 use Rattle.algebra.specs.Lists.{entry_of}
-use Rattle.signature.proofs.Inverting.{Inverting, inverting_start, inverting_index, entry_in, inverting_turn, inverting_end, units}
+use Rattle.signature.proofs.Inverting.{inverting_start, inverting_index, entry_in, inverting_turn, inverting_end, units}
 use Rattle.signature.proofs.invert.Goals as goal
 
 pub inverse-rest-requires : goal.inverse-rest-requires

@@ -1,15 +1,8 @@
 -- `invert` meets its contract. The loop's invariant: the places from i on hold inverses, and `rest` is that of the product before i.
-use mathlib.Core.Path.{ap, ◌∙◌}
-use mathlib.Core.List.{List}
-use Prim.Native.Nat.{ℕ, ◌-◌, ◌≤◌}
-use native.Mathlib.Omega.{arith}
+use Prim.Native.Nat.{◌≤◌}
 use lib.ListN.{length}
-use borrow.Author.Rules.{rules}
-use Rattle.algebra.specs.Filling.{get_or_stored}
-use Rattle.field.specs.Gf.{Width, gf}
-use Rattle.signature.specs.Inverses.{before}
-use Rattle.algebra.specs.Lists.{entry_of}
-use Rattle.signature.proofs.Inverting.{Inverting, inverting_start, inverting_index, entry_in, inverting_turn, inverting_end, units}
+use Rattle.field.specs.Gf.{Width}
+use Rattle.signature.proofs.Inverting.{Inverting}
 use Rattle.signature.proofs.invert.Given as goal
 
 abbrev pub invariant-loop-i : goal.invariant-loop-i

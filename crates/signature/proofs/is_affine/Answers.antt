@@ -1,9 +1,8 @@
 -- `is_affine` meets its contract. The loops' invariants: the rule holds at every pair passed, in the rows before i and in row i before j.
 use mathlib.Core.Path.{◌≡◌, refl, sym, ap, ◌∙◌, subst}
 use mathlib.Core.Bool.{true}
-use Prim.Native.Nat.{ℕ, ◌-◌, ◌≤◌}
+use Prim.Native.Nat.{ℕ}
 use native.Mathlib.Omega.{arith}
-use borrow.Author.Rules.{rules}
 use Rattle.algebra.specs.All.{all}
 use Rattle.algebra.specs.Xor.{◌⊕◌}
 use Rattle.signature.specs.Tests.{pair_kept, affine}

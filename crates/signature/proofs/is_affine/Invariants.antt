@@ -1,14 +1,11 @@
 -- `is_affine` meets its contract. The loops' invariants: the rule holds at every pair passed, in the rows before i and in row i before j.
-use mathlib.Core.Path.{◌≡◌, refl, sym, ap, ◌∙◌, subst}
+use mathlib.Core.Path.{◌≡◌}
 use mathlib.Core.Bool.{true}
-use Prim.Native.Nat.{ℕ, ◌-◌, ◌≤◌}
-use native.Mathlib.Omega.{arith}
-use borrow.Author.Rules.{rules}
+use Prim.Native.Nat.{◌≤◌}
 use Rattle.algebra.specs.All.{all}
 use Rattle.algebra.specs.Xor.{◌⊕◌}
-use Rattle.signature.specs.Tests.{pair_kept, affine}
+use Rattle.signature.specs.Tests.{pair_kept}
 use Rattle.algebra.specs.Lists.{entry_of}
-use Rattle.signature.proofs.Scan.{all_turn, index_below, pair_kept_lem, pair_broken}
 use Rattle.signature.proofs.is_affine.Given as goal
 
 abbrev pub invariant-loop-j : goal.invariant-loop-j

@@ -1,5 +1,4 @@
 -- `is_linear` meets its contract: the rule is tested on stored inverses.
-use borrow.Author.Rules.{rules}
 use Rattle.signature.proofs.Inverses.{rule_tested}
 use Rattle.signature.proofs.is_linear.Goals as goal
 

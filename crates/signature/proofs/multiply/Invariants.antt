@@ -1,13 +1,8 @@
 -- `multiply` meets its contract. The loop's invariant: the places passed hold the products before them.
-use mathlib.Core.Path.{◌≡◌, refl, sym, ap, ◌∙◌, subst}
-use Prim.Native.Nat.{ℕ, ◌-◌, ◌^◌, ◌<◌}
-use native.Mathlib.Omega.{arith}
+use mathlib.Core.Path.{◌≡◌}
 use lib.ListN.{length}
-use borrow.Author.Rules.{rules}
-use Rattle.algebra.specs.Filling.{filled}
 use Rattle.field.specs.Gf.{Width}
-use Rattle.signature.specs.Inverses.{before}
-use Rattle.signature.proofs.Inverting.{before_in, Multiplying, multiplying_start, multiplying_length, multiplying_turn}
+use Rattle.signature.proofs.Inverting.{Multiplying}
 use Rattle.signature.proofs.multiply.Given as goal
 
 abbrev pub invariant-loop-i : goal.invariant-loop-i

@@ -1,7 +1,6 @@
 -- `signature_fault` meets its contract: each return is at the first condition that does not hold.
 use mathlib.Core.Path.{sym}
 use native.Mathlib.Omega.{arith}
-use borrow.Author.Rules.{rules}
 use Rattle.refusals.specs.RuleLaws.{fault_here, fault_past, fault_none}
 use Rattle.signature.specs.Tests.{signature_rules}
 use Rattle.algebra.specs.Flags.{found_true, found_false}

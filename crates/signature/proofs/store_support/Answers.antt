@@ -1,5 +1,4 @@
 -- `store_support` meets its contract.
-use borrow.Author.Rules.{rules}
 use Rattle.algebra.specs.Xor.{◌⊕◌}
 use Rattle.signature.proofs.store_support.Goals as goal
 

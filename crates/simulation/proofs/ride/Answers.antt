@@ -17,7 +17,6 @@ use Rattle.simulation.specs.Ride.{ride_counts}
 use Rattle.simulation.specs.Answers.{ride_lengths, marks_long, start_rules, ride_rules, ride_fault, ride_answer, start_fault, ride_after}
 use Rattle.simulation.specs.Lent.{LentSteps}
 use Rattle.simulation.specs.LentLaws.{lent_exactly}
-use borrow.Author.Rules.{rules}
 use Rattle.simulation.proofs.ride.Goals as goal
 
 -- the marks of all steps, tested by the number of sent places that was counted

@@ -4,7 +4,6 @@ use Rattle.parity.specs.Selected.{columns_short}
 use Rattle.messages.proofs.Meaning.{room}
 use Rattle.simulation.specs.Steps.{steps_of}
 use Rattle.simulation.proofs.Ending.{ride_narrow, ride_starts}
-use borrow.Author.Rules.{rules}
 use Rattle.simulation.proofs.ride_on.Goals as goal
 
 pub code_basis-k-requires : goal.code_basis-k-requires

@@ -1,15 +1,13 @@
 -- `all_bits` meets its contract: it scans the entries.
 use mathlib.Core.Path.{◌≡◌, refl}
 use mathlib.Core.Bool.{true}
-use Prim.Native.Nat.{ℕ, ◌-◌, ◌≤◌}
+use Prim.Native.Nat.{ℕ, ◌≤◌}
 use native.Mathlib.Omega.{arith}
 use borrow.Author.Tests.{le-ltb, lt-ltb}
 use lib.Dec.{ltb}
 use lib.ListN.{length}
-use Rattle.algebra.specs.Scanning.{Scanning, scanning_start, scanning_turn, scanning_fails, scanning_end}
-use Rattle.algebra.specs.Lists.{entry_of}
+use Rattle.algebra.specs.Scanning.{scanning_start, scanning_turn, scanning_fails, scanning_end}
 use Rattle.slices.specs.Bits.{all_bits}
-use borrow.Author.Rules.{rules}
 use Rattle.slices.proofs.all_bits.Goals as goal
 
 bit : {x : ℕ} → x ≤ 1 → ltb x 2 ≡ true

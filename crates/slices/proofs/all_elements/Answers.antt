@@ -1,15 +1,12 @@
 -- `all_elements` meets its contract: it scans the entries.
-use mathlib.Core.Path.{◌≡◌, refl}
-use Prim.Native.Nat.{◌-◌}
+use mathlib.Core.Path.{refl}
 use native.Mathlib.Omega.{arith}
 use lib.ListN.{length}
 use Rattle.algebra.specs.Flags.{found_false, found_true}
-use Rattle.algebra.specs.Scanning.{Scanning, scanning_start, scanning_turn, scanning_fails, scanning_end}
+use Rattle.algebra.specs.Scanning.{scanning_start, scanning_turn, scanning_fails, scanning_end}
 use Rattle.algebra.specs.Lists.{entry_of}
-use Rattle.field.specs.Gf.{Width}
 use Rattle.field.specs.Range.{is_element}
 use Rattle.slices.specs.Elements.{all_elements}
-use borrow.Author.Rules.{rules}
 use Rattle.slices.proofs.all_elements.Goals as goal
 
 pub loop-i-init : goal.loop-i-init

@@ -1,12 +1,10 @@
 -- `copy_bits` meets its contract, place by place.
-use mathlib.Core.Path.{◌≡◌, refl, ◌∙◌}
-use Prim.Native.Nat.{◌-◌}
+use mathlib.Core.Path.{refl, ◌∙◌}
 use native.Mathlib.Omega.{arith}
 use lib.ListN.{length}
 use Rattle.algebra.specs.TabulateLaws.{tabulate-get_or}
-use Rattle.algebra.specs.Filling.{Filling, filling_start, filling_index, filling_turn, filling_length, filling_end}
+use Rattle.algebra.specs.Filling.{filling_start, filling_index, filling_turn, filling_length, filling_end}
 use Rattle.algebra.specs.Lists.{entry_of}
-use borrow.Author.Rules.{rules}
 use Rattle.slices.proofs.copy_bits.Goals as goal
 
 pub loop-i-init : goal.loop-i-init

@@ -1,10 +1,7 @@
 -- `is_power` meets its contract. The loop's invariant: p is a power of two, and those before it are below s.
-use mathlib.Core.Path.{sym, subst}
-use Prim.Native.Nat.{ℕ, ◌-◌, ◌≤◌, ◌<◌}
-use native.Mathlib.Omega.{arith}
-use lib.Pow.{pow_pos}
+use Prim.Native.Nat.{◌-◌, ◌≤◌}
 use Rattle.slices.specs.Lengths.{longest}
-use Rattle.slices.proofs.Doubling.{Doubling, doubling_start, doubling_turn, doubling_end, too_long}
+use Rattle.slices.proofs.Doubling.{Doubling}
 use Rattle.slices.proofs.is_power.Given as goal
 
 abbrev pub invariant-loop-p : goal.invariant-loop-p

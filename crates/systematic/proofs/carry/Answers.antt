@@ -6,7 +6,6 @@ use lib.ListN.{length}
 use Rattle.slices.specs.Bits.{Bits}
 use Rattle.basis.specs.Table.{Form, Completed}
 use Rattle.systematic.proofs.Places.{placed_bits}
-use borrow.Author.Rules.{rules}
 use Rattle.systematic.proofs.carry.Goals as goal
 
 pub complete-requires : goal.complete-requires

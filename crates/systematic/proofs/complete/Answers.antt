@@ -1,8 +1,7 @@
 -- `complete` meets its contract. The loop's invariant: from place p on the entries at the rows' places are as the rows say, and every entry without
 -- a row is as it was.
 use native.Mathlib.Omega.{arith}
-use Rattle.systematic.proofs.Places.{Completing, complete_start, complete_end, complete_index, complete_asks, complete_free, complete_led}
-use borrow.Author.Rules.{rules}
+use Rattle.systematic.proofs.Places.{complete_start, complete_end, complete_index, complete_asks, complete_free, complete_led}
 use Rattle.systematic.proofs.complete.Goals as goal
 
 pub loop-p-init : goal.loop-p-init

@@ -1,16 +1,13 @@
 -- `take_out` meets its contract. The loop's invariant: the message begins with the entries at the free places passed, `taken` of them, and the rest
 -- of it is as it was.
-use mathlib.Core.Path.{◌≡◌, refl, sym}
-use mathlib.Core.Logic.{⊎_elim}
-use Prim.Native.Nat.{◌-◌}
+use mathlib.Core.Path.{refl, sym}
 use native.Mathlib.Nat.{le_of_eq}
 use native.Mathlib.Omega.{arith}
 use lib.ListN.{length}
-use Rattle.algebra.specs.Choosing.{Choosing, choosing_start, choosing_length, choosing_index, choosing_passed_over, choosing_taken, choosing_full}
+use Rattle.algebra.specs.Choosing.{choosing_start, choosing_length, choosing_index, choosing_passed_over, choosing_taken, choosing_full}
 use Rattle.algebra.specs.Lists.{entry_of}
 use Rattle.basis.specs.Table.{free_at}
 use Rattle.systematic.proofs.Places.{led, free}
-use borrow.Author.Rules.{rules}
 use Rattle.systematic.proofs.take_out.Goals.{then-leads-p-ne1, else-leads-p-ne1}
 use Rattle.systematic.proofs.take_out.Goals as goal
 

@@ -1,16 +1,10 @@
 -- `take_out` meets its contract. The loop's invariant: the message begins with the entries at the free places passed, `taken` of them, and the rest
 -- of it is as it was.
-use mathlib.Core.Path.{◌≡◌, refl, sym}
-use mathlib.Core.Logic.{⊎_elim}
-use Prim.Native.Nat.{◌-◌}
-use native.Mathlib.Nat.{le_of_eq}
-use native.Mathlib.Omega.{arith}
+use mathlib.Core.Path.{◌≡◌}
 use lib.ListN.{length}
-use Rattle.algebra.specs.Choosing.{Choosing, choosing_start, choosing_length, choosing_index, choosing_passed_over, choosing_taken, choosing_full}
+use Rattle.algebra.specs.Choosing.{Choosing}
 use Rattle.algebra.specs.Lists.{entry_of}
 use Rattle.basis.specs.Table.{free_at}
-use Rattle.systematic.proofs.Places.{led, free}
-use borrow.Author.Rules.{rules}
 use Rattle.systematic.proofs.take_out.Given as goal
 
 abbrev pub invariant-loop-p : goal.invariant-loop-p

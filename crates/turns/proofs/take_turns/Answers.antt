@@ -1,11 +1,7 @@
 -- `take_turns` meets its contract, sender by sender.
 use mathlib.Core.Path.{refl}
-use mathlib.Core.Logic.{◌⊎◌, ⊎_elim}
-use Prim.Native.Nat.{◌-◌}
 use native.Mathlib.Omega.{arith}
-use lib.ListN.{length}
-use borrow.Author.Rules.{rules}
-use Rattle.turns.proofs.Turning.{Turning, turning_as, turning_start, turning_inside, turning_past, turning_late, turning_tried}
+use Rattle.turns.proofs.Turning.{turning_as, turning_start, turning_inside, turning_past, turning_late, turning_tried}
 use Rattle.turns.proofs.Turning.{turning_marks, turning_turn}
 use Rattle.turns.proofs.take_turns.Goals.{then-marks-sender-eq-OTHER+then-left-eq0, then-marks-sender-eq-OTHER+else-left-eq0, else-marks-sender-eq-OTHER}
 use Rattle.turns.proofs.take_turns.Goals as goal

@@ -1,5 +1,5 @@
 -- `counted_code` meets its contract, case by case.
-use Rattle.std.proofs.Common.{sym, ap, ◌∙◌, rules}
+use Rattle.std.proofs.Common.{sym, ap, ◌∙◌}
 use Rattle.wire.specs.Wire.{counted_code}
 use Rattle.wire.proofs.counted_code.Goals as goal
 

@@ -1,5 +1,5 @@
 -- `element_code` meets its contract, case by case.
-use Rattle.std.proofs.Common.{sym, ap, ◌∙◌, rules}
+use Rattle.std.proofs.Common.{sym, ap, ◌∙◌}
 use Rattle.wire.specs.Wire.{element_code}
 use Rattle.wire.proofs.element_code.Goals as goal
 

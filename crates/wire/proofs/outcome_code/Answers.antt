@@ -1,5 +1,5 @@
 -- `outcome_code` meets its contract, case by case.
-use Rattle.std.proofs.Common.{sym, ap, ◌∙◌, rules}
+use Rattle.std.proofs.Common.{sym, ap, ◌∙◌}
 use Rattle.wire.specs.Wire.{outcome_code}
 use Rattle.wire.proofs.outcome_code.Goals as goal
 

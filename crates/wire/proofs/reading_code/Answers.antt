@@ -1,5 +1,5 @@
 -- `reading_code` meets its contract, case by case.
-use Rattle.std.proofs.Common.{sym, ap, ◌∙◌, rules}
+use Rattle.std.proofs.Common.{sym, ap, ◌∙◌}
 use Rattle.wire.specs.Wire.{reading_code}
 use Rattle.wire.proofs.Readings.{as_read}
 use Rattle.wire.proofs.reading_code.Goals as goal

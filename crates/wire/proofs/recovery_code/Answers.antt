@@ -1,5 +1,5 @@
 -- `recovery_code` meets its contract, case by case.
-use Rattle.std.proofs.Common.{sym, ap, ◌∙◌, rules}
+use Rattle.std.proofs.Common.{sym, ap, ◌∙◌}
 use Rattle.wire.specs.Wire.{recovery_code}
 use Rattle.wire.proofs.recovery_code.Goals as goal
 

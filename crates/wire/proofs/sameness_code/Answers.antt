@@ -1,5 +1,5 @@
 -- `sameness_code` meets its contract, case by case.
-use Rattle.std.proofs.Common.{sym, ap, ◌∙◌, rules}
+use Rattle.std.proofs.Common.{sym, ap, ◌∙◌}
 use Rattle.wire.specs.Wire.{sameness_code}
 use Rattle.wire.proofs.sameness_code.Goals as goal
 

@@ -3,7 +3,6 @@ use lib.Dec.{eqb}
 use lib.ListN.{length}
 use Rattle.shortened.specs.BegunLaws.{begun_sent}
 use Rattle.shortened.specs.Setting.{short_code}
-use borrow.Author.Rules.{rules}
 use Rattle.words.proofs.message.Goals as goal
 
 pub message-requires : goal.message-requires

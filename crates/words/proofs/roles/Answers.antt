@@ -1,6 +1,5 @@
 -- `roles` meets its contract: it begins at the whole code.
 use Rattle.columns.specs.Choice.{Choice.whole_code}
-use borrow.Author.Rules.{rules}
 use Rattle.words.proofs.roles.Goals as goal
 
 pub roles-requires : goal.roles-requires

@@ -1,15 +1,13 @@
 -- `elimination::insert` meets its contract. The loop's invariant: the basis is as it was, the row is empty before p, and it says of every solution
 -- what it said at first.
-use mathlib.Core.Path.{◌≡◌, refl, sym, ap, ◌∙◌, subst, subst₂}
-use Prim.Native.Nat.{ℕ, ◌+◌, ◌-◌}
-use mathlib.Core.Logic.{⊎_elim}
+use mathlib.Core.Path.{refl, sym, ap, ◌∙◌, subst, subst₂}
+use Prim.Native.Nat.{ℕ, ◌+◌}
 use borrow.Author.Tests.{eq-eqb, ne_eqb}
 use lib.ListN.{length}
 use mathlib.Core.List.{List}
 use Rattle.algebra.specs.Lists.{entry_of}
 use Rattle.basis.specs.Table.{lead_at, Inserted}
 use Rattle.basis.proofs.Insertion.{in_row, in_table, in_leads, Inserting, inserting_start, inserting_skip, inserting_reduce, inserting_store, inserting_end}
-use borrow.Author.Rules.{rules}
 use Rattle.basis.proofs.elimination.insert.Goals.{then-bit-eq1+else-leads-p-ne1, else-bit-eq1}
 use Rattle.basis.proofs.elimination.insert.Goals as goal
 

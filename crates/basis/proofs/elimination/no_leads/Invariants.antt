@@ -1,13 +1,7 @@
 -- `elimination::no_leads` meets its contract, place by place.
-use mathlib.Core.Path.{◌≡◌, refl, ap, ◌∙◌}
-use mathlib.Core.List.{List}
-use Prim.Native.Nat.{ℕ, ◌-◌}
-use native.Mathlib.Omega.{arith}
+use mathlib.Core.Path.{◌≡◌}
 use lib.ListN.{length}
-use Rattle.algebra.specs.TabulateLaws.{get_d_tabulate}
-use Rattle.algebra.specs.Filling.{Filling, filling_start, filling_index, filling_turn, filling_length, filling_end}
-use Rattle.algebra.specs.Lists.{entry_of}
-use borrow.Author.Rules.{rules}
+use Rattle.algebra.specs.Filling.{Filling}
 use Rattle.basis.proofs.elimination.no_leads.Given as goal
 
 abbrev pub invariant-loop-p : goal.invariant-loop-p

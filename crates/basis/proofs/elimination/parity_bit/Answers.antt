@@ -7,7 +7,6 @@ use Rattle.algebra.specs.BitLaws.{bit_at_lt}
 use Rattle.algebra.specs.Xor.{◌⊕◌}
 use Rattle.algebra.specs.Lists.{entry_of}
 use Rattle.basis.specs.Table.{parity_bit}
-use borrow.Author.Rules.{rules}
 use Rattle.basis.proofs.elimination.parity_bit.Goals as goal
 
 pub offset_bounds-cols-j : goal.offset_bounds-cols-j

@@ -1,11 +1,9 @@
 -- `elimination::parity_row` meets its contract. The loop's invariant: the places passed hold their bit, and the others nothing.
-use mathlib.Core.Path.{◌≡◌, refl, ◌∙◌}
-use Prim.Native.Nat.{◌-◌}
+use mathlib.Core.Path.{refl, ◌∙◌}
 use native.Mathlib.Omega.{arith}
 use lib.ListN.{length}
 use Rattle.basis.specs.Table.{parity_bit}
-use Rattle.basis.proofs.Building.{Building, building_start, building_turn}
-use borrow.Author.Rules.{rules}
+use Rattle.basis.proofs.Building.{building_start, building_turn}
 use Rattle.basis.proofs.elimination.parity_row.Goals as goal
 
 pub loop-j-init : goal.loop-j-init

@@ -1,11 +1,8 @@
 -- `elimination::parity_row` meets its contract. The loop's invariant: the places passed hold their bit, and the others nothing.
-use mathlib.Core.Path.{◌≡◌, refl, ◌∙◌}
-use Prim.Native.Nat.{◌-◌}
-use native.Mathlib.Omega.{arith}
+use mathlib.Core.Path.{◌≡◌}
 use lib.ListN.{length}
 use Rattle.basis.specs.Table.{parity_bit}
-use Rattle.basis.proofs.Building.{Building, building_start, building_turn}
-use borrow.Author.Rules.{rules}
+use Rattle.basis.proofs.Building.{Building}
 use Rattle.basis.proofs.elimination.parity_row.Given as goal
 
 abbrev pub invariant-loop-j : goal.invariant-loop-j

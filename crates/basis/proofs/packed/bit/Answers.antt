@@ -2,7 +2,6 @@
 use mathlib.Core.Path.{refl}
 use Rattle.algebra.specs.Bits.{bit_at}
 use Rattle.basis.specs.Packed.{packed_bit}
-use borrow.Author.Rules.{rules}
 use Rattle.basis.proofs.packed.bit.Goals as goal
 
 pub returns : goal.returns

@@ -1,11 +1,9 @@
 -- `packed::clear` meets its contract, word by word.
-use mathlib.Core.Path.{◌≡◌, refl, sym, subst}
-use Prim.Native.Nat.{◌-◌}
+use mathlib.Core.Path.{refl, sym, subst}
 use native.Mathlib.Omega.{arith}
 use lib.ListN.{length}
-use Rattle.algebra.specs.Filling.{Filling, filling_start, filling_index, filling_turn, filling_length, filling_end}
+use Rattle.algebra.specs.Filling.{filling_start, filling_index, filling_turn, filling_length, filling_end}
 use Rattle.basis.specs.Packed.{Cleared, cleared}
-use borrow.Author.Rules.{rules}
 use Rattle.basis.proofs.packed.clear.Goals as goal
 
 pub loop-k-init : goal.loop-k-init

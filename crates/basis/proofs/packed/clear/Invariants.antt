@@ -1,11 +1,7 @@
 -- `packed::clear` meets its contract, word by word.
-use mathlib.Core.Path.{◌≡◌, refl, sym, subst}
-use Prim.Native.Nat.{◌-◌}
-use native.Mathlib.Omega.{arith}
+use mathlib.Core.Path.{◌≡◌}
 use lib.ListN.{length}
-use Rattle.algebra.specs.Filling.{Filling, filling_start, filling_index, filling_turn, filling_length, filling_end}
-use Rattle.basis.specs.Packed.{Cleared, cleared}
-use borrow.Author.Rules.{rules}
+use Rattle.algebra.specs.Filling.{Filling}
 use Rattle.basis.proofs.packed.clear.Given as goal
 
 abbrev pub invariant-loop-k : goal.invariant-loop-k

@@ -8,7 +8,6 @@ use lib.Pow.{shl_exact}
 use Rattle.algebra.specs.Xor.{◌⊕◌}
 use Rattle.algebra.specs.Lists.{entry_of}
 use Rattle.basis.specs.Packed.{Marked, marked}
-use borrow.Author.Rules.{rules}
 use Rattle.basis.proofs.packed.mark.Goals as goal
 
 pub returns : goal.returns

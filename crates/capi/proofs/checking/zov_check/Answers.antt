@@ -1,7 +1,6 @@
 -- `zov_check` meets its contract: the outcome as a number, and the buffers as the call leaves them.
 use mathlib.Core.Path.{ap, ◌∙◌}
 use Rattle.wire.specs.Wire.{outcome_code}
-use borrow.Author.Rules.{rules}
 use Rattle.capi.proofs.checking.zov_check.Goals as goal
 
 pub returns : goal.returns

@@ -1,7 +1,6 @@
 -- `zov_same` meets its contract: the answer, as a number.
 use mathlib.Core.Path.{ap, ◌∙◌}
 use Rattle.wire.specs.Wire.{sameness_code}
-use borrow.Author.Rules.{rules}
 use Rattle.capi.proofs.checking.zov_same.Goals as goal
 
 pub returns : goal.returns

@@ -1,7 +1,6 @@
 -- `zov_roles` meets its contract: the answer as a number, and the buffer as the call leaves it.
 use mathlib.Core.Path.{ap, ◌∙◌}
 use Rattle.wire.specs.Wire.{counted_code}
-use borrow.Author.Rules.{rules}
 use Rattle.capi.proofs.coding.zov_roles.Goals as goal
 
 pub returns : goal.returns

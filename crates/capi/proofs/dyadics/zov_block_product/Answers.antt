@@ -1,7 +1,6 @@
 -- `zov_block_product` meets its contract: the outcome as a number, and the buffer as the call leaves it.
 use mathlib.Core.Path.{ap, ◌∙◌}
 use Rattle.wire.specs.Wire.{outcome_code}
-use borrow.Author.Rules.{rules}
 use Rattle.capi.proofs.dyadics.zov_block_product.Goals as goal
 
 pub returns : goal.returns

@@ -1,5 +1,4 @@
 -- `zov_formula` meets its contract: the outcome as a number, and the buffer as the call leaves it.
-use borrow.Author.Rules.{rules}
 use Rattle.capi.proofs.dyadics.zov_formula.Goals as goal
 
 pub returns : goal.returns

@@ -1,7 +1,6 @@
 -- `zov_field_product` meets its contract: the field's answer, as a number.
 use mathlib.Core.Path.{ap, ◌∙◌}
 use Rattle.wire.specs.Wire.{element_code}
-use borrow.Author.Rules.{rules}
 use Rattle.capi.proofs.elements.zov_field_product.Goals as goal
 
 pub returns : goal.returns

@@ -1,7 +1,6 @@
 -- `zov_ride` meets its contract: the answer as a number, and the buffer as the call leaves it.
 use mathlib.Core.Path.{ap, ◌∙◌}
 use Rattle.wire.specs.Wire.{outcome_code}
-use borrow.Author.Rules.{rules}
 use Rattle.capi.proofs.riding.zov_ride.Goals as goal
 
 pub returns : goal.returns

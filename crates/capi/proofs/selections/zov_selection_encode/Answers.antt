@@ -1,7 +1,6 @@
 -- `zov_selection_encode` meets its contract: the answer as a number, and the buffer as the call leaves it.
 use mathlib.Core.Path.{ap, ◌∙◌}
 use Rattle.wire.specs.Wire.{outcome_code}
-use borrow.Author.Rules.{rules}
 use Rattle.capi.proofs.selections.zov_selection_encode.Goals as goal
 
 pub returns : goal.returns

@@ -1,7 +1,6 @@
 -- `zov_senders_offer` meets its contract: the answer as a number, and the buffers as the call leaves them.
 use mathlib.Core.Path.{ap, ◌∙◌}
 use Rattle.wire.specs.Wire.{outcome_code}
-use borrow.Author.Rules.{rules}
 use Rattle.capi.proofs.senders.zov_senders_offer.Goals as goal
 
 pub returns : goal.returns

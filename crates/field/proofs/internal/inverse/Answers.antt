@@ -1,10 +1,8 @@
 -- `internal::inverse` meets its contract. The loop's invariant: what is multiplied, and the squares still to come, is the inverse.
 use mathlib.Core.Path.{sym, ap, ◌∙◌, subst₂}
-use Prim.Native.Nat.{ℕ, ◌+◌, ◌-◌}
-use borrow.Author.Rules.{rules}
+use Prim.Native.Nat.{ℕ, ◌+◌}
 use Rattle.field.specs.Product.{product}
 use Rattle.field.specs.Words.{word}
-use Rattle.field.specs.Gf.{Width}
 use Rattle.field.proofs.Shift.{Chaining, chain_start, chain_turn, chain_end}
 use Rattle.field.proofs.internal.inverse.Goals as goal
 

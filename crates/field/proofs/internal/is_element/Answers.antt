@@ -1,5 +1,4 @@
 -- `internal::is_element` meets its contract: what is shifted out is nought exactly of the elements.
-use borrow.Author.Rules.{rules}
 use Rattle.field.proofs.Shift.{shifted_test}
 use Rattle.field.proofs.internal.is_element.Goals as goal
 

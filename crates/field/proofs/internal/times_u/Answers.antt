@@ -3,7 +3,6 @@ use mathlib.Core.Path.{sym, ap, ◌∙◌, subst}
 use Prim.Native.Nat.{ℕ, suc, ◌*◌, ◌/◌, ◌<◌, ◌^◌}
 use native.Mathlib.Omega.{arith}
 use lib.Bits.{bit_xor}
-use borrow.Author.Rules.{rules}
 use Rattle.algebra.specs.Xor.{◌⊕◌}
 use Rattle.field.specs.Words.{widest, word}
 use Rattle.field.specs.ProductByU.{shift_and_cut_back}

@@ -1,11 +1,9 @@
 -- `syndromes::syndrome` meets its contract, row by row.
-use mathlib.Core.Path.{◌≡◌, refl}
-use Prim.Native.Nat.{◌-◌}
+use mathlib.Core.Path.{refl}
 use native.Mathlib.Omega.{arith}
 use lib.ListN.{length}
-use Rattle.algebra.specs.Filling.{Filling, filling_start, filling_index, filling_turn, filling_length, filling_end}
+use Rattle.algebra.specs.Filling.{filling_start, filling_index, filling_turn, filling_length, filling_end}
 use Rattle.parity.specs.Parity.{signature_sum}
-use borrow.Author.Rules.{rules}
 use Rattle.parity.proofs.syndromes.syndrome.Goals as goal
 
 pub loop-i-init : goal.loop-i-init

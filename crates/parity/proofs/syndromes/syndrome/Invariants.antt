@@ -1,11 +1,8 @@
 -- `syndromes::syndrome` meets its contract, row by row.
-use mathlib.Core.Path.{◌≡◌, refl}
-use Prim.Native.Nat.{◌-◌}
-use native.Mathlib.Omega.{arith}
+use mathlib.Core.Path.{◌≡◌}
 use lib.ListN.{length}
-use Rattle.algebra.specs.Filling.{Filling, filling_start, filling_index, filling_turn, filling_length, filling_end}
+use Rattle.algebra.specs.Filling.{Filling}
 use Rattle.parity.specs.Parity.{signature_sum}
-use borrow.Author.Rules.{rules}
 use Rattle.parity.proofs.syndromes.syndrome.Given as goal
 
 abbrev pub invariant-loop-i : goal.invariant-loop-i

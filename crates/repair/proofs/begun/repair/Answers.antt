@@ -9,7 +9,6 @@ use Rattle.nearest.specs.Repair.{repaired_of}
 use Rattle.repair.specs.declared.Recovery.TheVariants.{Repaired, Refused}
 use Rattle.repair.specs.Answers.{word_rules, turned_count, repair_fault, repair_answer, repair_after}
 use Rattle.repair.specs.Decoding.{word_answer, word_after}
-use borrow.Author.Rules.{rules}
 use Rattle.repair.proofs.begun.repair.Goals as goal
 
 pub slice_bounds-repair-end : goal.slice_bounds-repair-end

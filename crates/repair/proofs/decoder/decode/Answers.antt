@@ -6,7 +6,6 @@ use Rattle.algebra.specs.Flags.{found_false, found_true}
 use Rattle.slices.specs.BitLaws.{received_bits}
 use Rattle.parity.specs.Selected.{columns_short}
 use Rattle.repair.proofs.Decoding.{no_word, code_word_decoded, candidate_refused, candidate_decoded, candidate_bits, candidate_few}
-use borrow.Author.Rules.{rules}
 use Rattle.repair.proofs.decoder.decode.Goals as goal
 
 pub returns-then-not-all_bits : goal.returns-then-not-all_bits

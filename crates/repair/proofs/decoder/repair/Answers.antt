@@ -9,7 +9,6 @@ use Rattle.parity.specs.Selected.{columns_short}
 use Rattle.repair.specs.declared.Recovery.{Recovery}
 use Rattle.repair.specs.Decoding.{Decoded}
 use Rattle.repair.proofs.Decoding.{repaired_copied, refused_left}
-use borrow.Author.Rules.{rules}
 use Rattle.repair.proofs.decoder.repair.Goals as goal
 
 pub slice_bounds-word-end : goal.slice_bounds-word-end

@@ -6,7 +6,6 @@ use Rattle.algebra.specs.Flags.{found_false, found_true}
 use Rattle.basis.specs.Table.{free_count}
 use Rattle.messages.specs.CodeBasis.{counted}
 use Rattle.rows.proofs.Ending.{not_repaired, no_row, row_found, taken_out}
-use borrow.Author.Rules.{rules}
 use Rattle.rows.proofs.based.read.Goals as goal
 
 pub returns-in_default : goal.returns-in_default

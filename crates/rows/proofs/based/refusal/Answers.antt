@@ -1,7 +1,6 @@
 -- `based::refusal` meets its contract, case by case.
 use mathlib.Core.Path.{sym, ap}
 use Rattle.rows.specs.Parts.{refusal_of}
-use borrow.Author.Rules.{rules}
 use Rattle.rows.proofs.based.refusal.Goals as goal
 
 pub returns-in-Repaired : goal.returns-in-Repaired

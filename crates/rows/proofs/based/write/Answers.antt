@@ -6,7 +6,6 @@ use lib.ListN.{length}
 use Rattle.slices.specs.Bits.{Bits}
 use Rattle.basis.specs.Table.{free_count, Carried}
 use Rattle.gears.specs.Messages.{length_message, message_bits}
-use borrow.Author.Rules.{rules}
 use Rattle.rows.proofs.based.write.Goals as goal
 
 pub carry-requires : goal.carry-requires

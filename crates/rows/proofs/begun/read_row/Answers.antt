@@ -8,7 +8,6 @@ use Rattle.shortened.specs.BegunLaws.{begun_refuses, begun_places, begun_accepte
 use Rattle.nearest.specs.Repair.{repaired_of}
 use Rattle.rows.specs.declared.Reading.TheVariants.{Refused}
 use Rattle.rows.specs.Answers.{read_rules, row_read, reading_answer, reading_after, read_fault, read_answer, read_after}
-use borrow.Author.Rules.{rules}
 use Rattle.rows.proofs.begun.read_row.Goals as goal
 
 pub slice_bounds-read-end : goal.slice_bounds-read-end

@@ -3,7 +3,6 @@ use mathlib.Core.Path.{◌∙◌}
 use borrow.Author.Tests.{eqb-true}
 use Rattle.shortened.specs.BegunLaws.{begun_refuses_both, begun_places, begun_accepted, begun_columns, begun_long, begun_ends}
 use Rattle.rows.specs.Answers.{write_rules, row_word, write_fault, write_answer, write_after}
-use borrow.Author.Rules.{rules}
 use Rattle.rows.proofs.begun.write_row.Goals as goal
 
 pub slice_bounds-write-end : goal.slice_bounds-write-end

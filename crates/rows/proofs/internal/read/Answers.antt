@@ -12,7 +12,6 @@ use Rattle.gears.specs.Rows.{row_bits}
 use Rattle.rows.specs.declared.Reading.{Reading}
 use Rattle.rows.specs.Parts.{ReadInto}
 use Rattle.rows.proofs.Ending.{zeros, length_part, read_narrow, row_copied, refused_left}
-use borrow.Author.Rules.{rules}
 use Rattle.rows.proofs.internal.read.Goals as goal
 
 pub message_columns-k-requires : goal.message_columns-k-requires

@@ -9,7 +9,6 @@ use Rattle.messages.specs.CodeBasis.{counted, fewer}
 use Rattle.parity.specs.Selected.{columns_short}
 use Rattle.messages.proofs.Meaning.{room}
 use Rattle.rows.proofs.Ending.{length_part, write_narrow, write_no_row, write_fits, row_carried}
-use borrow.Author.Rules.{rules}
 use Rattle.rows.proofs.internal.write.Goals as goal
 
 pub code_basis-k-requires : goal.code_basis-k-requires

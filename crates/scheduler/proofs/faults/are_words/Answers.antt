@@ -1,17 +1,10 @@
 -- `faults::are_words` meets its contract: it scans the senders.
-use mathlib.Core.Path.{◌≡◌, refl}
-use mathlib.Core.Bool.{not, ◌||◌}
-use Prim.Native.Nat.{◌-◌}
+use mathlib.Core.Path.{refl}
 use native.Mathlib.Omega.{arith}
-use lib.Dec.{eqb}
 use lib.ListN.{length}
 use Rattle.algebra.specs.Flags.{found_false, found_true}
-use Rattle.algebra.specs.Lists.{entry_of}
-use Rattle.algebra.specs.Parts.{part}
-use Rattle.algebra.specs.Scanning.{Scanning, scanning_start, scanning_turn, scanning_fails, scanning_end}
-use Rattle.slices.specs.Bits.{all_bits}
+use Rattle.algebra.specs.Scanning.{scanning_start, scanning_turn, scanning_fails, scanning_end}
 use Rattle.scheduler.specs.State.{all_words}
-use borrow.Author.Rules.{rules}
 use Rattle.scheduler.proofs.faults.are_words.Goals as goal
 
 pub loop-p-init : goal.loop-p-init

@@ -3,7 +3,6 @@ use mathlib.Core.Path.{refl, sym}
 use Rattle.algebra.specs.Flags.{found_false, found_true}
 use Rattle.refusals.specs.RuleLaws.{fault_here, fault_past, fault_none}
 use Rattle.scheduler.specs.State.{dash_rules}
-use borrow.Author.Rules.{rules}
 use Rattle.scheduler.proofs.faults.dash_fault.Goals as goal
 
 pub returns-then-not-d : goal.returns-then-not-d

@@ -3,7 +3,6 @@ use native.Mathlib.Omega.{arith}
 use Rattle.algebra.specs.Lists.{entry_of}
 use Rattle.algebra.specs.PartLaws.{part_room}
 use Rattle.scheduler.proofs.Refusing.{word_idle, word_waits}
-use borrow.Author.Rules.{rules}
 use Rattle.scheduler.proofs.faults.is_word.Goals as goal
 
 pub returns-then-waiting-p-ne1 : goal.returns-then-waiting-p-ne1

@@ -2,7 +2,6 @@
 use native.Mathlib.Omega.{arith}
 use Rattle.algebra.specs.Flags.{found_false, found_true}
 use Rattle.scheduler.proofs.Refusing.{dash_refuses, dash_passes, offer_nobody, offer_waits, offer_not_bits, offer_none}
-use borrow.Author.Rules.{rules}
 use Rattle.scheduler.proofs.faults.offer_fault.Goals as goal
 
 pub returns-then-number-ne0 : goal.returns-then-number-ne0

@@ -1,7 +1,6 @@
 -- `faults::state_fault` meets its contract: each return is at the first rule that does not hold.
 use Rattle.algebra.specs.Flags.{found_false, found_true}
 use Rattle.scheduler.proofs.Refusing.{dash_refuses, dash_passes, state_nobody, state_not_marks, state_not_words, state_none}
-use borrow.Author.Rules.{rules}
 use Rattle.scheduler.proofs.faults.state_fault.Goals as goal
 
 pub returns-then-number-ne0 : goal.returns-then-number-ne0

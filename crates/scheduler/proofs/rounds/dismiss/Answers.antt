@@ -1,12 +1,9 @@
 -- `dismiss` meets its contract, sender by sender.
-use mathlib.Core.Path.{◌≡◌, refl}
-use mathlib.Core.Logic.{⊎_elim}
-use Prim.Native.Nat.{◌-◌}
+use mathlib.Core.Path.{refl}
 use native.Mathlib.Omega.{arith}
 use lib.ListN.{length}
-use Rattle.algebra.specs.Filling.{Filling, filling_start, filling_index, filling_length, filling_end}
+use Rattle.algebra.specs.Filling.{filling_start, filling_index, filling_length, filling_end}
 use Rattle.scheduler.proofs.Handing.{kept_mark, dismissed, kept, filling_as}
-use borrow.Author.Rules.{rules}
 use Rattle.scheduler.proofs.rounds.dismiss.Goals.{then-marks-p-ne-STAYS, else-marks-p-ne-STAYS}
 use Rattle.scheduler.proofs.rounds.dismiss.Goals as goal
 

@@ -1,12 +1,8 @@
 -- `dismiss` meets its contract, sender by sender.
-use mathlib.Core.Path.{◌≡◌, refl}
-use mathlib.Core.Logic.{⊎_elim}
-use Prim.Native.Nat.{◌-◌}
-use native.Mathlib.Omega.{arith}
+use mathlib.Core.Path.{◌≡◌}
 use lib.ListN.{length}
-use Rattle.algebra.specs.Filling.{Filling, filling_start, filling_index, filling_length, filling_end}
-use Rattle.scheduler.proofs.Handing.{kept_mark, dismissed, kept, filling_as}
-use borrow.Author.Rules.{rules}
+use Rattle.algebra.specs.Filling.{Filling}
+use Rattle.scheduler.proofs.Handing.{kept_mark}
 use Rattle.scheduler.proofs.rounds.dismiss.Given as goal
 
 abbrev pub invariant-loop-p : goal.invariant-loop-p

@@ -1,7 +1,6 @@
 -- `hand_one` meets its contract: nothing, a code word as it is, or what repair finds.
 use mathlib.Core.Path.{sym, ◌∙◌}
 use Rattle.scheduler.proofs.Handing.{none_handed, some_handed, code_word_handed}
-use borrow.Author.Rules.{rules}
 use Rattle.scheduler.proofs.rounds.hand_one.Goals as goal
 
 pub returns-then-mark-eq-STAYS : goal.returns-then-mark-eq-STAYS

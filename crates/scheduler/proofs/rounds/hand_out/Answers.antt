@@ -2,19 +2,17 @@
 use mathlib.Core.Path.{◌≡◌, refl, sym, ap, ap₂, ◌∙◌, subst}
 use mathlib.Core.Bool.{true}
 use mathlib.Core.List.{List}
-use Prim.Native.Nat.{ℕ, ◌+◌, ◌-◌, ◌*◌, ◌≤◌}
+use Prim.Native.Nat.{ℕ, ◌+◌, ◌*◌, ◌≤◌}
 use native.Mathlib.Omega.{arith}
 use lib.ListN.{length}
-use Rattle.algebra.specs.Filling.{Filling, filling_start, filling_index, filling_turn, filling_length, filling_end}
+use Rattle.algebra.specs.Filling.{filling_start, filling_index, filling_turn, filling_length, filling_end}
 use Rattle.algebra.specs.Lists.{entry_of}
-use Rattle.algebra.specs.Parts.{part}
-use Rattle.algebra.specs.PartLaws.{part_room, part_lent, length_lent, Replacing, replacing_start, replacing_inside, replacing_old}
+use Rattle.algebra.specs.PartLaws.{part_room, part_lent, length_lent, replacing_start, replacing_inside, replacing_old}
 use Rattle.algebra.specs.PartLaws.{replacing_lent, replacing_length, replacing_end}
 use Rattle.slices.specs.Bits.{IsBits}
 use Rattle.parity.specs.Word.{is_code_word}
 use Rattle.scheduler.specs.Parts.{answer_of, handed_of}
 use Rattle.scheduler.proofs.Handing.{handed_wide}
-use borrow.Author.Rules.{rules}
 use Rattle.scheduler.proofs.rounds.hand_out.Goals as goal
 
 pub loop-p-init : goal.loop-p-init

@@ -1,7 +1,6 @@
 -- `make` meets its contract: what its parts did, put together.
 use native.Mathlib.Omega.{arith}
 use Rattle.scheduler.proofs.Making.{making_turn, turn_small, marks_long_lem, making_hands, making}
-use borrow.Author.Rules.{rules}
 use Rattle.scheduler.proofs.rounds.make.Goals as goal
 
 pub mark_all-requires : goal.mark_all-requires

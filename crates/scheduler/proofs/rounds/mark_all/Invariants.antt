@@ -1,14 +1,8 @@
 -- `mark_all` meets its contract, sender by sender.
-use mathlib.Core.Path.{◌≡◌, refl, sym, ap, ◌∙◌, subst}
-use Prim.Native.Nat.{◌-◌}
-use native.Mathlib.Omega.{arith}
+use mathlib.Core.Path.{◌≡◌}
 use lib.ListN.{length}
-use Rattle.algebra.specs.Filling.{Filling, filling_start, filling_index, filling_turn, filling_length, filling_end}
-use Rattle.algebra.specs.Lists.{entry_of}
-use Rattle.algebra.specs.PartLaws.{part_room, part_lent}
-use Rattle.slices.specs.Bits.{IsBits}
-use Rattle.scheduler.specs.Parts.{mark_of, mark_at}
-use borrow.Author.Rules.{rules}
+use Rattle.algebra.specs.Filling.{Filling}
+use Rattle.scheduler.specs.Parts.{mark_at}
 use Rattle.scheduler.proofs.rounds.mark_all.Given as goal
 
 abbrev pub invariant-loop-p : goal.invariant-loop-p

@@ -6,7 +6,6 @@ use lib.ListN.{length, replicate}
 use lib.Seq.{length-take-le}
 use Rattle.scheduler.specs.State.{most_senders}
 use Rattle.scheduler.proofs.Rounding.{turn_alone, round_refused, round_few, round_lent, round_made}
-use borrow.Author.Rules.{rules}
 use Rattle.scheduler.proofs.rounds.round_on.Goals as goal
 
 pub bounds-next-0 : goal.bounds-next-0

@@ -1,11 +1,9 @@
 -- `clear` meets its contract, count by count.
 use mathlib.Core.Path.{refl}
-use Prim.Native.Nat.{◌-◌}
 use native.Mathlib.Omega.{arith}
-use Rattle.algebra.specs.Filling.{Filling, filling_start, filling_index, filling_turn, filling_length, filling_end}
+use Rattle.algebra.specs.Filling.{filling_start, filling_index, filling_turn, filling_length, filling_end}
 use Rattle.algebra.specs.Tabulate.{tabulate}
 use Rattle.simulation.specs.Answers.{counts_long}
-use borrow.Author.Rules.{rules}
 use Rattle.simulation.proofs.steps.clear.Goals as goal
 
 pub loop-i-init : goal.loop-i-init

@@ -14,7 +14,6 @@ use Rattle.rows.specs.Answers.{reading_answer}
 use Rattle.rows.proofs.Ending.{zeros, length_part}
 use Rattle.simulation.specs.Ride.{verdict_of, step_verdict}
 use Rattle.simulation.proofs.Sending.{sent_is}
-use borrow.Author.Rules.{rules}
 use Rattle.simulation.proofs.steps.make.Goals as goal
 
 pub slice_bounds-message-end : goal.slice_bounds-message-end

@@ -1,7 +1,7 @@
 -- `make_all` meets its contract, step by step.
-use mathlib.Core.Path.{◌≡◌, refl, sym, ap, ◌∙◌}
+use mathlib.Core.Path.{refl, sym, ap, ◌∙◌}
 use mathlib.Core.List.{List}
-use Prim.Native.Nat.{ℕ, ◌-◌}
+use Prim.Native.Nat.{ℕ}
 use native.Mathlib.Omega.{arith}
 use lib.ListN.{length}
 use Rattle.algebra.specs.PartLaws.{part_lent, length_lent}
@@ -9,9 +9,8 @@ use Rattle.parity.specs.Selected.{columns_short}
 use Rattle.refusals.specs.Rules.{fault}
 use Rattle.simulation.specs.Steps.{steps_of, gear_at, lamp_at, step_rules, rules_at}
 use Rattle.simulation.specs.Ride.{verdict_at, step_verdict}
-use Rattle.simulation.proofs.Riding.{Riding, riding_start, riding_long, riding_countable, riding_turn, riding_stops, riding_ends}
+use Rattle.simulation.proofs.Riding.{riding_start, riding_long, riding_countable, riding_turn, riding_stops, riding_ends}
 use Rattle.simulation.proofs.Parts.{part_inside, part_small, step_bits}
-use borrow.Author.Rules.{rules}
 use Rattle.simulation.proofs.steps.make_all.Goals as goal
 
 pub clear-requires : goal.clear-requires

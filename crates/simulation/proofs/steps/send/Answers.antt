@@ -3,7 +3,6 @@ use mathlib.Core.Path.{ap, ◌∙◌}
 use Prim.Native.Nat.{ℕ}
 use Rattle.nearest.specs.Turned.{turned}
 use Rattle.simulation.specs.Ride.{is_marked}
-use borrow.Author.Rules.{rules}
 use Rattle.simulation.proofs.steps.send.Goals as goal
 
 pub returns : goal.returns

@@ -1,10 +1,8 @@
 -- `step_fault` meets its contract: 8, 11, or 0.
 use mathlib.Core.Path.{sym}
-use mathlib.Core.List.{[]}
 use Rattle.algebra.specs.Flags.{found_false, found_true}
 use Rattle.refusals.specs.RuleLaws.{fault_here, fault_past, fault_none}
 use Rattle.simulation.specs.Steps.{step_rules}
-use borrow.Author.Rules.{rules}
 use Rattle.simulation.proofs.steps.step_fault.Goals as goal
 
 pub returns-then-not-bits : goal.returns-then-not-bits

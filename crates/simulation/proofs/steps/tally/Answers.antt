@@ -4,7 +4,6 @@ use native.Mathlib.Omega.{arith}
 use Rattle.simulation.specs.declared.Verdict.{Verdict}
 use Rattle.simulation.specs.Parts.{tallied}
 use Rattle.simulation.proofs.Counting.{right_counted, held_counted, wrong_counted, raised_other}
-use borrow.Author.Rules.{rules}
 use Rattle.simulation.proofs.steps.tally.Goals as goal
 
 pub overflow_add-counts : goal.overflow_add-counts

@@ -1,16 +1,13 @@
 -- `turn` meets its contract, place by place.
 use mathlib.Core.Path.{◌≡◌, refl, ap₂}
 use mathlib.Core.Bool.{cond}
-use Prim.Native.Nat.{ℕ, zero, suc, ◌-◌, ◌<◌}
+use Prim.Native.Nat.{ℕ, zero, suc, ◌<◌}
 use native.Mathlib.Omega.{arith}
 use lib.Dec.{eqb}
 use lib.ListN.{length}
-use Rattle.algebra.specs.Filling.{Filling, filling_start, filling_index, filling_turn, filling_length, filling_old, filling_end}
-use Rattle.algebra.specs.Lists.{entry_of}
+use Rattle.algebra.specs.Filling.{filling_start, filling_index, filling_turn, filling_length, filling_old, filling_end}
 use Rattle.algebra.specs.Xor.{◌⊕◌}
 use Rattle.nearest.specs.Turned.{turned}
-use Rattle.simulation.specs.Ride.{is_marked}
-use borrow.Author.Rules.{rules}
 use Rattle.simulation.proofs.steps.turn.Goals as goal
 
 -- a mark is the bit that is added

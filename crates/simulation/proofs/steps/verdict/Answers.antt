@@ -9,7 +9,6 @@ use Rattle.rows.specs.declared.Reading.{Reading}
 use Rattle.rows.specs.declared.Reading.TheVariants.{Read}
 use Rattle.simulation.specs.declared.Verdict.TheVariants.{Right, Wrong}
 use Rattle.simulation.specs.Ride.{verdict_of}
-use borrow.Author.Rules.{rules}
 use Rattle.simulation.proofs.steps.verdict.Goals as goal
 
 -- a row that was read, and the test of both its parts

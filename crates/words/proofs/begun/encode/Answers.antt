@@ -7,7 +7,6 @@ use Rattle.parity.specs.Columns.{dimension, encoding_of}
 use Rattle.shortened.specs.BegunLaws.{begun_refuses_both, begun_places, begun_accepted, begun_columns, begun_long, begun_ends}
 use Rattle.messages.specs.MessageRules.{message_rules}
 use Rattle.words.specs.Answers.{encode_fault, encode_answer, encode_after}
-use borrow.Author.Rules.{rules}
 use Rattle.words.proofs.begun.encode.Goals as goal
 
 pub slice_bounds-encode-end : goal.slice_bounds-encode-end

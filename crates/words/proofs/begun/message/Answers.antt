@@ -7,7 +7,6 @@ use Rattle.parity.specs.Columns.{dimension, message_of}
 use Rattle.shortened.specs.BegunLaws.{begun_refuses_both, begun_places, begun_accepted, begun_columns, begun_long, begun_ends}
 use Rattle.messages.specs.MessageRules.{message_rules}
 use Rattle.words.specs.Answers.{message_fault, message_answer, message_after}
-use borrow.Author.Rules.{rules}
 use Rattle.words.proofs.begun.message.Goals as goal
 
 pub slice_bounds-message-end : goal.slice_bounds-message-end

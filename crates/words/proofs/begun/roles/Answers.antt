@@ -1,10 +1,7 @@
 -- `begun::roles` meets its contract: what the beginning refused is refused, and else the columns that it numbered are those of the choice.
-use mathlib.Core.Path.{sym, ap, ◌∙◌}
 use mathlib.Core.Bool.{true}
 use mathlib.Core.List.{List}
 use Prim.Native.Nat.{ℕ}
-use lib.Dec.{eqb}
-use lib.ListN.{length}
 use borrow.Author.Tests.{eqb-true}
 use Rattle.algebra.specs.Flags.{both_true}
 use Rattle.refusals.specs.declared.Counted.TheVariants.{Count, Refused}
@@ -13,7 +10,6 @@ use Rattle.parity.specs.Columns.{roles_of}
 use Rattle.columns.specs.ListedLaws.{listed_refuses, listed_places, listed_accepted, listed_columns, listed_long, listed_passes}
 use Rattle.shortened.specs.Marks.{sent_dimension, mark_rules}
 use Rattle.words.specs.Answers.{roles_rules, roles_fault, roles_answer, roles_after}
-use borrow.Author.Rules.{rules}
 use Rattle.words.proofs.begun.roles.Goals as goal
 
 pub slice_bounds-short_roles-end : goal.slice_bounds-short_roles-end

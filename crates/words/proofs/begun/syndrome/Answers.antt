@@ -4,7 +4,6 @@ use borrow.Author.Tests.{eqb-true}
 use Rattle.parity.specs.Word.{syndrome_of}
 use Rattle.shortened.specs.BegunLaws.{begun_refuses_both, begun_places, begun_accepted, begun_columns, begun_long, begun_ends}
 use Rattle.words.specs.Answers.{bit_rules, syndrome_fault, syndrome_answer, syndrome_after}
-use borrow.Author.Rules.{rules}
 use Rattle.words.proofs.begun.syndrome.Goals as goal
 
 pub slice_bounds-syndrome-end : goal.slice_bounds-syndrome-end

@@ -11,7 +11,6 @@ use Rattle.parity.specs.Columns.{encoding_of}
 use Rattle.messages.specs.CodeBasis.{counted}
 use Rattle.parity.specs.Selected.{columns_short}
 use Rattle.messages.proofs.Meaning.{room, message_fits, message_due}
-use borrow.Author.Rules.{rules}
 use Rattle.words.proofs.internal.encode.Goals as goal
 
 pub code_basis-k-requires : goal.code_basis-k-requires

@@ -12,7 +12,6 @@ use Rattle.parity.specs.Columns.{message_of}
 use Rattle.messages.specs.CodeBasis.{message_is, counted}
 use Rattle.parity.specs.Selected.{columns_short}
 use Rattle.messages.proofs.Meaning.{message_fits, message_due}
-use borrow.Author.Rules.{rules}
 use Rattle.words.proofs.internal.message.Goals as goal
 
 pub message_columns-k-requires : goal.message_columns-k-requires

@@ -7,7 +7,6 @@ use Rattle.algebra.specs.Tabulate.{tabulate}
 use Rattle.basis.specs.Table.{free_at}
 use Rattle.messages.specs.CodeBasis.{roles_are, fewer}
 use Rattle.parity.specs.Selected.{columns_short}
-use borrow.Author.Rules.{rules}
 use Rattle.words.proofs.internal.roles.Goals as goal
 
 pub message_columns-k-requires : goal.message_columns-k-requires

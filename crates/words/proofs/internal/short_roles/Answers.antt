@@ -16,7 +16,6 @@ use Rattle.shortened.specs.Marks.{sent_count, sent_dimension, mark_rules}
 use Rattle.shortened.specs.MarkLaws.{sent_le}
 use Rattle.shortened.specs.SettingLaws.{marked}
 use Rattle.shortened.specs.ShortCode.{dimension-hidden}
-use borrow.Author.Rules.{rules}
 use Rattle.words.proofs.internal.short_roles.Goals as goal
 
 module _ (hidden : List ℕ) {c : Parameters} {h cols : List ℕ} (O : OnColumns c h cols) (long : length hidden ≡ length cols) where

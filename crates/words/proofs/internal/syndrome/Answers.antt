@@ -12,7 +12,6 @@ use Rattle.basis.specs.Table.{Reaches}
 use Rattle.words.specs.Answers.{bit_rules}
 use Rattle.parity.specs.Parity.{signature_sum, signature_syndrome, reaches}
 use Rattle.parity.specs.Word.{syndrome_of}
-use borrow.Author.Rules.{rules}
 use Rattle.words.proofs.internal.syndrome.Goals as goal
 
 pub returns-then-not-all_bits : goal.returns-then-not-all_bits

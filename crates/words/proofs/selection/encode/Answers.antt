@@ -3,7 +3,6 @@ use lib.Dec.{eqb}
 use lib.ListN.{length}
 use Rattle.shortened.specs.BegunLaws.{begun_sent}
 use Rattle.shortened.specs.Setting.{short_selection}
-use borrow.Author.Rules.{rules}
 use Rattle.words.proofs.selection.encode.Goals as goal
 
 pub encode-requires : goal.encode-requires

@@ -3,7 +3,6 @@ use mathlib.Core.Path.{ap₂}
 use mathlib.Core.Bool.{Bool, ◌&&◌}
 use Rattle.columns.specs.Choice.{Choice.selection}
 use Rattle.columns.specs.ListedLaws.{listed_as}
-use borrow.Author.Rules.{rules}
 use Rattle.words.proofs.selection.roles.Goals as goal
 
 pub roles-requires : goal.roles-requires
