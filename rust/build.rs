@@ -15,6 +15,6 @@ fn main() {
         println!("cargo:rustc-link-search=native={}", directory.display());
         println!("cargo:rustc-link-lib=static=capi");
     } else {
-        println!("cargo:warning={} is missing; `rt staticlib capi` makes it", archive.display());
+        println!("cargo:warning={} is missing; `.ci/staticlib` makes it", archive.display());
     }
 }

@@ -10,7 +10,7 @@ use Rattle.algebra.specs.SumLaws.{in_sum}
 use Rattle.refusals.specs.Rules.{Rule, fault}
 use Rattle.refusals.specs.RuleLaws.{fault_first, fault_rest, hold}
 use Rattle.field.specs.Gf.{Width, gf}
-use Rattle.field.specs.GfLaws.{gf_laws}
+use Rattle.field.proofs.GfLaws.{gf_laws}
 use Rattle.field.specs.RangeLaws.{width_is}
 use Rattle.slices.specs.LengthLaws.{power_is, power_short}
 use Rattle.slices.specs.Elements.{Elements}

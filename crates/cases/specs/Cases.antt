@@ -174,9 +174,6 @@ agreeing [] e = tt
 agreeing (c ∷ cs) e =
     let (here, rest) = both_true (same_list c.given c.said) (agree cs) e in ((same_list_is c.given c.said).0 here, agreeing cs rest)
 
-table_agrees : agree table ≡ true
-unfolding agree table is element outcome recovery marked sent card block_product_of block_inverse_of signature_of essence_for signature_for signature_t signature_a encoding_a repair_a element_rules element_fault pair_fault product_answer inverse_answer poly_product cut_back remainder product squares inverse fault unless_refused is_width is_element words word all_elements is_power size_rules block_rules blockPairRules inverse_rules blockPairFault blockInverseFault blockProductAnswer blockProductAfter blockInverseAnswer blockInverseAfter block_product total quotient block_inverse is_invertible choice_sum vanishes dependent essence_from essence_of chosen_at signatureFrom is_value_count essenceShapeRules essence_rules essence_fault essence_answer essence_after value_rules signature_fault signature_answer signature_after check_fault check_answer support_after is_length is_root_count shape_rules signature_rules code_rules root_at support_at inverse_at nonzero no_zero pair_kept affine linear distinct message_rules encode_fault encode_answer encode_after count chosen word_of found same_list same_entry is_sum_of is_sum is_message_column dimension message_of encoding_of whole all_columns choice_rules sent_count sent_of hidden_pass hides_messages mark_rules columns_of setting_rules all_bits parity_at held syndrome_at is_code_word word_rules turned_count repair_fault repair_answer repair_after distance is_near is_repairable differs repaired_of all some bit_at sum tabulate ◌⊕◌
-table_agrees = refl
-
 pub table_holds : Hold table
-table_holds = agreeing table table_agrees
+unfolding agree table is element outcome recovery marked sent card block_product_of block_inverse_of signature_of essence_for signature_for signature_t signature_a encoding_a repair_a element_rules element_fault pair_fault product_answer inverse_answer poly_product cut_back remainder product squares inverse fault unless_refused is_width is_element words word all_elements is_power size_rules block_rules blockPairRules inverse_rules blockPairFault blockInverseFault blockProductAnswer blockProductAfter blockInverseAnswer blockInverseAfter block_product total quotient block_inverse is_invertible choice_sum vanishes dependent essence_from essence_of chosen_at signatureFrom is_value_count essenceShapeRules essence_rules essence_fault essence_answer essence_after value_rules signature_fault signature_answer signature_after check_fault check_answer support_after is_length is_root_count shape_rules signature_rules code_rules root_at support_at inverse_at nonzero no_zero pair_kept affine linear distinct message_rules encode_fault encode_answer encode_after count chosen word_of found same_list same_entry is_sum_of is_sum is_message_column dimension message_of encoding_of whole all_columns choice_rules sent_count sent_of hidden_pass hides_messages mark_rules columns_of setting_rules all_bits parity_at held syndrome_at is_code_word word_rules turned_count repair_fault repair_answer repair_after distance is_near is_repairable differs repaired_of all some bit_at sum tabulate ◌⊕◌
+table_holds = agreeing table refl

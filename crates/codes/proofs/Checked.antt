@@ -10,7 +10,7 @@ use Rattle.algebra.specs.Flags.{both_true}
 use Rattle.params.specs.declared.Parameters.{Parameters}
 use Rattle.params.specs.Code.{Accepted}
 use Rattle.shortened.specs.Setting.{short_code}
-use Rattle.shortened.specs.SettingLaws.{setting_accepted}
+use Rattle.shortened.proofs.SettingLaws.{setting_accepted}
 use Rattle.codes.specs.Answers.{check_fault}
 
 -- the buffers of `check` have their lengths

@@ -1,2 +1,4 @@
+pub mod Agreement
 pub mod Checked
 pub mod Comparing
+pub mod SameLaws

@@ -11,7 +11,7 @@ use Rattle.algebra.specs.Field.{Ops}
 use Rattle.algebra.specs.Tabulate.{tabulate}
 use Rattle.algebra.specs.TabulateLaws.{get_d_tabulate}
 use Rattle.field.specs.Gf.{gf}
-use Rattle.field.specs.GfLaws.{gf_laws}
+use Rattle.field.proofs.GfLaws.{gf_laws}
 use Rattle.refusals.specs.Answered.{done_none}
 use Rattle.refusals.specs.Rules.{unless_refused}
 use Rattle.refusals.specs.RuleLaws.{given}
@@ -21,11 +21,11 @@ use Rattle.signature.specs.Signature.{Cauchy, HasCauchy, root_at, support_at}
 use Rattle.signature.specs.Existence.{pair_conditions}
 use Rattle.signature.specs.Pigeonhole.{cauchy_short}
 use Rattle.algebra.specs.Lists.{entry_of}
-use Rattle.params.specs.Accepted.{accepted_pair}
+use Rattle.params.proofs.Accepted.{accepted_pair}
 use Rattle.params.specs.Code.{Limits, Accepted}
 use Rattle.shortened.specs.Fits.{Fits}
 use Rattle.shortened.specs.Setting.{short_code}
-use Rattle.shortened.specs.SettingLaws.{setting_accepted, setting_accepts}
+use Rattle.shortened.proofs.SettingLaws.{setting_accepted, setting_accepts}
 use Rattle.codes.specs.Answers.{check_fault, check_answer, roots_after, support_after}
 
 -- a pair may be given by other sequences that agree below n

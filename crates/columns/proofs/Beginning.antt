@@ -13,7 +13,7 @@ use Rattle.refusals.specs.Rules.{fault}
 use Rattle.refusals.specs.RuleLaws.{fault_first, fault_rest, refuse, accept}
 use Rattle.slices.specs.Lengths.{longest}
 use Rattle.params.specs.declared.Parameters.{Parameters}
-use Rattle.params.specs.Accepted.{code_numbered, accepted, n_short}
+use Rattle.params.proofs.Accepted.{code_numbered, accepted, n_short}
 use Rattle.params.specs.Code.{Accepted, code_fault, code_rules}
 use Rattle.parity.specs.Word.{whole}
 use Rattle.columns.specs.Listed.{Listed, Selecting}
@@ -21,7 +21,7 @@ use Rattle.columns.specs.Fits.{Chosen}
 use Rattle.columns.specs.SelectionLaws.{t_positive, selected_inside}
 use Rattle.columns.specs.Choice.{Choice, Choice.whole_code, Choice.selection, selected_column, all_places, all_columns}
 use Rattle.columns.specs.Choice.{selection_rules, choice_rules}
-use Rattle.columns.specs.ChoiceLaws.{chosen, all_short}
+use Rattle.columns.proofs.ChoiceLaws.{chosen, all_short}
 
 module _ (c : Parameters) (h : List ℕ) (s : Choice) (others full : Bool) (columns : List ℕ) where
   listed_refused : {k : ℕ} → k ≡ fault (choice_rules c h s others full) → k ≢ 0 → Listed c h s others full columns (Refused k)

@@ -1,2 +1,5 @@
 pub mod Beginning
+pub mod ChoiceLaws
+pub mod ListedLaws
 pub mod Naming
+pub mod Offsets

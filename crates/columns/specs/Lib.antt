@@ -4,8 +4,5 @@ pub mod Listed
 pub mod ShiftedSignature
 pub mod AllOf
 pub mod SelectionLaws
-pub mod ChoiceLaws
-pub mod ListedLaws
 pub mod DyadicBlocks
 pub mod AllBlocks
-pub mod Offsets

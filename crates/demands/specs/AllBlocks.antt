@@ -9,7 +9,7 @@ use Rattle.parity.specs.SameMatrix.{SameMatrix}
 use Rattle.columns.specs.AllOf.{all_blocks}
 use Rattle.columns.specs.AllBlocks.{all_fit, all_places_lem, all_columns_lem}
 use Rattle.columns.specs.Choice.{Choice.whole_code, all_places, all_columns, choice_rules}
-use Rattle.columns.specs.ChoiceLaws.{choice_fault}
+use Rattle.columns.proofs.ChoiceLaws.{choice_fault}
 use Rattle.shortened.specs.Setting.{shortened, short_code}
 use Rattle.demands.specs.Alike.{Alike}
 use Rattle.demands.specs.SameMatrix.{answered_alike}

@@ -9,7 +9,7 @@ use Rattle.slices.specs.Bits.{Bits, IsBits}
 use Rattle.params.specs.declared.Parameters.{Parameters}
 use Rattle.parity.specs.Word.{syndrome_at, is_code_word}
 use Rattle.shortened.specs.Setting.{Setting, places, columns_of}
-use Rattle.shortened.specs.SettingLaws.{length_columns}
+use Rattle.shortened.proofs.SettingLaws.{length_columns}
 use Rattle.nearest.specs.CodeWord.{CodeWord as CodeWordOn}
 
 -- 01: "It is a code word if for every i below t the sum of 1/(z_i + L_j) over the places j that hold 1 is zero." The places are the sent ones of the

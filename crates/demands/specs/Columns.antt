@@ -15,7 +15,7 @@ use Rattle.algebra.specs.SumLaws.{sum_cong, in_sum}
 use Rattle.algebra.specs.Xor.{◌⊕◌}
 use Rattle.algebra.specs.XorLaws.{⊕_self, ⊕-lt, ⊕_eq}
 use Rattle.field.specs.Gf.{Width, gf}
-use Rattle.field.specs.GfLaws.{gf_laws}
+use Rattle.field.proofs.GfLaws.{gf_laws}
 use Rattle.params.specs.declared.Parameters.{Parameters}
 use Rattle.parity.specs.Columns.{is_sum_of, is_sum, is_message_column}
 use Rattle.parity.specs.Parity.{held_in, bit_at-sum}

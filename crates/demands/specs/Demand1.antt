@@ -56,7 +56,7 @@ use Rattle.parity.specs.Columns.{dimension}
 use Rattle.columns.specs.Choice.{Choice, Choice.whole_code, Choice.selection, all_places, all_columns, selection_rules, choice_rules}
 use Rattle.shortened.specs.Marks.{hides_messages, sent_dimension, mark_rules}
 use Rattle.shortened.specs.Setting.{Setting, short_code, places, columns_of, is_marked, setting_rules}
-use Rattle.shortened.specs.SettingLaws.{length_columns}
+use Rattle.shortened.proofs.SettingLaws.{length_columns}
 use Rattle.messages.specs.MessageRules.{message_rules}
 use Rattle.words.specs.Answers.{bit_rules, roles_rules, roles_fault, roles_answer, roles_after, syndrome_fault, syndrome_answer, syndrome_after}
 use Rattle.words.specs.Answers.{encode_fault, encode_answer, encode_after, message_fault, message_answer, message_after}
@@ -65,7 +65,7 @@ use Rattle.repair.specs.declared.Recovery.TheVariants.{Repaired, Refused as NotR
 use Rattle.repair.specs.Answers.{word_rules, turned_count, repair_fault, repair_answer, repair_after}
 use Rattle.rows.specs.declared.Reading.TheVariants.{Refused as NotRead}
 use Rattle.rows.specs.Answers.{write_rules, carried, read_rules, row_read, write_fault, write_answer, write_after, read_fault, read_answer, read_after}
-use Rattle.rows.specs.Laws.{read_apart, same_reading}
+use Rattle.rows.proofs.Laws.{read_apart, same_reading}
 use Rattle.simulation.specs.Steps.{Steps, step_count, step_rules, rules_at, steps_rules}
 use Rattle.simulation.specs.Ride.{ride_counts}
 use Rattle.simulation.specs.Answers.{ride_lengths, marks_long, start_rules, ride_rules, ride_fault, ride_answer, start_fault, ride_after}

@@ -16,7 +16,7 @@ use Rattle.refusals.specs.Answered.{done_none}
 use Rattle.refusals.specs.declared.Outcome.TheVariants.{Done, Refused}
 use Rattle.refusals.specs.RuleLaws.{fault_none, hold, given}
 use Rattle.field.specs.Gf.{Width, gf}
-use Rattle.field.specs.GfLaws.{gf_laws}
+use Rattle.field.proofs.GfLaws.{gf_laws}
 use Rattle.field.specs.Range.{is_width}
 use Rattle.field.specs.RangeLaws.{width_is}
 use Rattle.slices.specs.Bits.{Bits, all_bits}
@@ -28,13 +28,13 @@ use Rattle.slices.specs.LengthLaws.{power_is}
 use Rattle.signature.specs.Signature.{Cauchy, HasCauchy}
 use Rattle.dyadic.specs.Block.{matrix, block_sum, block_product, total, block_inverse}
 use Rattle.dyadic.specs.Invertible.{is_invertible}
-use Rattle.dyadic.specs.Laws.{matrix_sum_lem, matrix_product_lem, left_inverse, right_inverse, no_left_inverse, no_right_inverse}
+use Rattle.dyadic.proofs.Laws.{matrix_sum_lem, matrix_product_lem, left_inverse, right_inverse, no_left_inverse, no_right_inverse}
 use Rattle.dyadic.specs.Matrix.{Matrix, Same, matrix_sum, matrix_product, identity}
 use Rattle.blocks.specs.Answers.{size_rules, block_rules, pair_rules, inverse_rules, pair_fault, inverse_fault}
 use Rattle.blocks.specs.Answers.{sum_answer, sum_after, product_answer, product_after, inverse_answer, inverse_after}
 use Rattle.params.specs.declared.Parameters.{Parameters}
 use Rattle.params.specs.Code.{with_offset, Limits, Accepted}
-use Rattle.params.specs.Accepted.{offset_accepted}
+use Rattle.params.proofs.Accepted.{offset_accepted}
 use Rattle.codes.specs.Answers.{check_answer, roots_after, support_after}
 use Rattle.codes.specs.Acceptance.{accepted_done, done_exactly, done_pair, done_short}
 use Rattle.parity.specs.Columns.{dimension, message_of, encoding_of}
@@ -42,7 +42,7 @@ use Rattle.parity.specs.Encoding.{encoding_carries, encoding_only}
 use Rattle.parity.specs.Word.{syndrome_at, syndrome_of}
 use Rattle.shortened.specs.Fits.{Fits}
 use Rattle.shortened.specs.Setting.{Setting, short_code, places, columns_of}
-use Rattle.shortened.specs.SettingLaws.{setting_leaves}
+use Rattle.shortened.proofs.SettingLaws.{setting_leaves}
 use Rattle.messages.specs.MessageRules.{message_rules}
 use Rattle.words.specs.Answers.{bit_rules, syndrome_fault, syndrome_answer, syndrome_after}
 use Rattle.words.specs.Answers.{encode_fault, encode_answer, encode_after, message_fault, message_answer, message_after}

@@ -19,8 +19,8 @@ use Rattle.params.specs.declared.Parameters.{Parameters}
 use Rattle.params.specs.Code.{Accepted}
 use Rattle.shortened.specs.Fits.{Fits}
 use Rattle.shortened.specs.Setting.{Setting, places, columns_of}
-use Rattle.shortened.specs.SettingLaws.{setting_leaves, fits_selected, length_columns}
-use Rattle.nearest.specs.Demand.{repaired_code_word, repaired_within, others_beyond, too_far_exactly}
+use Rattle.shortened.proofs.SettingLaws.{setting_leaves, fits_selected, length_columns}
+use Rattle.nearest.proofs.Demand.{repaired_code_word, repaired_within, others_beyond, too_far_exactly}
 use Rattle.nearest.specs.Repair.{distance, is_repairable, repaired_of}
 use Rattle.repair.specs.declared.Recovery.TheVariants.{Repaired, Refused}
 use Rattle.repair.specs.Answers.{word_rules, turned_count, repair_fault, repair_answer, repair_after}

@@ -30,13 +30,13 @@ use Rattle.shortened.specs.Setting.{short_code}
 use Rattle.codes.specs.Answers.{check_answer}
 use Rattle.codes.specs.Acceptance.{accepted_done}
 use Rattle.essence.specs.Choices.{dependent, Independent, Dependent}
-use Rattle.essence.specs.ChoiceLaws.{dependent_is, independent_is}
+use Rattle.essence.proofs.ChoiceLaws.{dependent_is, independent_is}
 use Rattle.essence.specs.Essence.{essence_of, signature_of}
-use Rattle.essence.specs.ChosenLaws.{Values}
-use Rattle.essence.specs.EssenceLaws.{signature_long, signature_elements, signature_conditions, essence_of_signature}
-use Rattle.essence.specs.EssenceLaws.{Signature, essence_values, essence_last, essence_other, essence_independent, signature_of_essence}
+use Rattle.essence.proofs.ChosenLaws.{Values}
+use Rattle.essence.proofs.EssenceLaws.{signature_long, signature_elements, signature_conditions, essence_of_signature}
+use Rattle.essence.proofs.EssenceLaws.{Signature, essence_values, essence_last, essence_other, essence_independent, signature_of_essence}
 use Rattle.essence.specs.Shape.{Shape}
-use Rattle.essence.specs.ShapeLaws.{shape_is, shape_values, shape_signature}
+use Rattle.essence.proofs.ShapeLaws.{shape_is, shape_values, shape_signature}
 use Rattle.essence.specs.Answers.{shape_rules, essence_rules, essence_fault, essence_answer, essence_after}
 use Rattle.essence.specs.Answers.{value_rules, signature_fault, signature_answer, signature_after}
 use Rattle.demands.specs.Demand1.{essence_refuses, signature_refuses}

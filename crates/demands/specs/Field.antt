@@ -8,9 +8,9 @@ use Rattle.field.specs.declared.Answer.TheVariants.{Element}
 use Rattle.field.specs.Answers.{element_rules, product_answer, inverse_answer}
 use Rattle.field.specs.Division.{quotient, product_divides, product_only}
 use Rattle.field.specs.Gf.{Width, gf}
-use Rattle.field.specs.GfLaws.{gf_is_field, gf_laws, inverse_is-zero}
+use Rattle.field.proofs.GfLaws.{gf_is_field, gf_laws, inverse_is-zero}
 use Rattle.field.specs.Product.{poly_product, product, inverse}
-use Rattle.field.specs.ProductByU.{shift_and_cut_back}
+use Rattle.field.proofs.ProductByU.{shift_and_cut_back}
 use Rattle.field.specs.RangeLaws.{width, element}
 use Rattle.field.specs.Ring.{product_lt}
 use Rattle.field.specs.Words.{word}

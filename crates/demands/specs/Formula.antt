@@ -14,12 +14,12 @@ use Rattle.refusals.specs.Rules.{Rule, Hold, fault, unless_refused}
 use Rattle.refusals.specs.RuleLaws.{fault_here, fault_past, fault_empty, fault_none, fault_first, fault_rest, given, hold}
 use Rattle.refusals.specs.Answered.{done_none, refused_due, done_apart, same_outcome}
 use Rattle.field.specs.Gf.{gf}
-use Rattle.field.specs.GfLaws.{gf_laws}
+use Rattle.field.proofs.GfLaws.{gf_laws}
 use Rattle.slices.specs.Elements.{Elements}
 use Rattle.dyadic.specs.Block.{matrix, total}
 use Rattle.dyadic.specs.Matrix.{Matrix, Same, matrix_product, identity}
 use Rattle.dyadic.specs.Invertible.{is_invertible}
-use Rattle.dyadic.specs.Laws.{invertible}
+use Rattle.dyadic.proofs.Laws.{invertible}
 use Rattle.formula.specs.Letters.{Lent, is_lent}
 use Rattle.formula.specs.Grammar.{Sum, Product, Term, ◌over◌, ◌times◌, inverse, sum_text}
 use Rattle.formula.specs.Reading.{longest_text, Reads, TextReading, formula, none, IsReading, TermWithin}
@@ -27,10 +27,10 @@ use Rattle.formula.specs.Value.{sum_block, product_block, term_block, sum_exists
 use Rattle.formula.specs.Answers.{lent_rules, lent_fault, reading_rules, formula_rules, formula_fault, reading_block, formula_answer, formula_after, Answered}
 use Rattle.formula.specs.Callers.{Ready}
 use Rattle.formula.specs.CallerLaws.{ready}
-use Rattle.formula.specs.ValueLaws.{sum_sized, term_sized}
-use Rattle.formula.specs.Written.{sum_written}
-use Rattle.formula.specs.SingleReading.{text_injective, single_reading, reading_unique}
-use Rattle.formula.specs.Deciding.{decided}
+use Rattle.formula.proofs.ValueLaws.{sum_sized, term_sized}
+use Rattle.formula.proofs.Written.{sum_written}
+use Rattle.formula.proofs.SingleReading.{text_injective, single_reading, reading_unique}
+use Rattle.formula.proofs.Deciding.{decided}
 use Rattle.demands.specs.Lowest.{fault_up_to}
 
 -- 01: "each accepted text has a single reading"; and every other text has none

@@ -19,7 +19,7 @@ use Rattle.refusals.specs.Rules.{Rule, ◌unless◌, fault, unless_refused}
 use Rattle.refusals.specs.RuleLaws.{first_holds, hold}
 use Rattle.field.specs.declared.Answer.TheVariants.{Element, Refused as NoElement}
 use Rattle.field.specs.Answers.{element_rules, element_fault, pair_fault, sum_answer, product_answer, inverse_answer}
-use Rattle.field.specs.GfLaws.{gf_is_field, gf_laws}
+use Rattle.field.proofs.GfLaws.{gf_is_field, gf_laws}
 use Rattle.field.specs.Product.{product, inverse}
 use Rattle.field.specs.Range.{is_width, is_element}
 use Rattle.field.specs.RangeLaws.{width_is, element_is}
@@ -33,7 +33,7 @@ use Rattle.formula.specs.Reading.{TextReading}
 use Rattle.formula.specs.Answers.{lent_rules, reading_rules, formula_rules, formula_fault, formula_answer}
 use Rattle.signature.specs.Tests.{signature_rules}
 use Rattle.params.specs.declared.Parameters.{Parameters}
-use Rattle.params.specs.Accepted.{n_short}
+use Rattle.params.proofs.Accepted.{n_short}
 use Rattle.params.specs.Code.{Accepted, shape_rules, code_rules}
 use Rattle.essence.specs.Answers.{shape_rules as essenceShapeRules, essence_rules, essence_fault, essence_answer}
 use Rattle.essence.specs.Answers.{value_rules, signature_fault, signature_answer}
@@ -43,11 +43,11 @@ use Rattle.codes.specs.Lowest.{lowest-le}
 use Rattle.codes.specs.Same.{same_code}
 use Rattle.parity.specs.Columns.{is_message_column, dimension}
 use Rattle.columns.specs.Choice.{Choice, Choice.whole_code, Choice.selection, all_places, all_columns, selection_rules, choice_rules}
-use Rattle.columns.specs.ChoiceLaws.{choice_accepted, all_short}
+use Rattle.columns.proofs.ChoiceLaws.{choice_accepted, all_short}
 use Rattle.shortened.specs.Fits.{Fits}
 use Rattle.shortened.specs.Marks.{is_sent, sent_dimension, mark_rules}
 use Rattle.shortened.specs.Setting.{Setting, short_code, short_selection, places, columns_of, is_marked, setting_rules}
-use Rattle.shortened.specs.SettingLaws.{setting_accepted, length_columns, places_short, fits_columns}
+use Rattle.shortened.proofs.SettingLaws.{setting_accepted, length_columns, places_short, fits_columns}
 use Rattle.messages.specs.MessageRules.{message_rules}
 use Rattle.words.specs.Answers.{bit_rules, roles_rules, roles_fault, roles_answer, syndrome_fault, syndrome_answer}
 use Rattle.words.specs.Answers.{encode_fault, encode_answer, message_fault, message_answer}
@@ -57,7 +57,7 @@ use Rattle.repair.specs.Answers.{word_rules, turned_count, repair_fault, repair_
 use Rattle.gears.specs.declared.Row.{Row}
 use Rattle.rows.specs.declared.Reading.TheVariants.{Read, Refused as NotRead}
 use Rattle.rows.specs.Answers.{write_rules, read_rules, row_read, write_fault, write_answer, read_fault, read_answer}
-use Rattle.rows.specs.Laws.{read_apart, same_reading}
+use Rattle.rows.proofs.Laws.{read_apart, same_reading}
 use Rattle.simulation.specs.Steps.{Steps, step_count, step_rules, rules_at, steps_rules}
 use Rattle.simulation.specs.Answers.{ride_lengths, marks_long, start_rules, ride_rules, ride_fault, ride_answer}
 use Rattle.sheets.specs.Sheet.{sheet_parameters, sheet_h}

@@ -22,14 +22,14 @@ use Rattle.params.specs.Code.{Accepted, code_rules}
 use Rattle.parity.specs.Columns.{roles_of, dimension, message_of, encoding_of}
 use Rattle.parity.specs.Word.{syndrome_of}
 use Rattle.columns.specs.Choice.{Choice, Choice.whole_code, all_places, all_columns, choice_rules}
-use Rattle.columns.specs.ChoiceLaws.{choice_numbered}
+use Rattle.columns.proofs.ChoiceLaws.{choice_numbered}
 use Rattle.shortened.specs.Marks.{mark_rules}
-use Rattle.shortened.specs.NothingHidden.{unhidden-places, unhidden_columns, unhidden-fault, unhidden_hides, unhidden_fits, unhidden_dimension}
+use Rattle.shortened.proofs.NothingHidden.{unhidden-places, unhidden_columns, unhidden-fault, unhidden_hides, unhidden_fits, unhidden_dimension}
 use Rattle.shortened.specs.Setting.{Setting, places, columns_of, setting_rules}
-use Rattle.shortened.specs.SettingLaws.{marks_pass}
+use Rattle.shortened.proofs.SettingLaws.{marks_pass}
 use Rattle.shortened.specs.Unhidden.{unhidden}
 use Rattle.codes.specs.declared.Sameness.TheVariants.{Same}
-use Rattle.codes.specs.Agreement.{same_exactly}
+use Rattle.codes.proofs.Agreement.{same_exactly}
 use Rattle.codes.specs.Answers.{check_fault, lowest, same_fault, same_answer}
 use Rattle.messages.specs.MessageRules.{message_rules}
 use Rattle.words.specs.Answers.{bit_rules, roles_rules, roles_fault, roles_answer, roles_after, syndrome_fault, syndrome_answer, syndrome_after}

@@ -8,21 +8,21 @@ use Rattle.std.proofs.Math.Dec.{eqb}
 use Rattle.algebra.specs.Lists.{entry_of}
 use Rattle.algebra.specs.Xor.{◌⊕◌}
 use Rattle.field.specs.Gf.{gf}
-use Rattle.field.specs.GfLaws.{gf_laws}
+use Rattle.field.proofs.GfLaws.{gf_laws}
 use Rattle.refusals.specs.declared.Outcome.TheVariants.{Done, Refused}
 use Rattle.refusals.specs.Rules.{unless_refused}
 use Rattle.signature.specs.Offsets.{roots_apart, support_apart}
 use Rattle.signature.specs.Signature.{root_at, support_at}
 use Rattle.params.specs.declared.Parameters.{Parameters}
-use Rattle.params.specs.Accepted.{with_offset_lem}
+use Rattle.params.proofs.Accepted.{with_offset_lem}
 use Rattle.params.specs.Code.{Accepted, with_offset}
 use Rattle.codes.specs.declared.Sameness.TheVariants.{Same, Different}
 use Rattle.codes.specs.Acceptance.{accepted_done, done_root, done_support, done_pair}
 use Rattle.codes.specs.Agree.{Agree}
-use Rattle.codes.specs.Agreement.{same_exactly, different}
+use Rattle.codes.proofs.Agreement.{same_exactly, different}
 use Rattle.codes.specs.Answers.{check_fault, check_answer, roots_after, support_after, same_answer}
 use Rattle.columns.specs.Choice.{Choice, Choice.whole_code}
-use Rattle.columns.specs.Offsets.{choice_offset, matrix_offset}
+use Rattle.columns.proofs.Offsets.{choice_offset, matrix_offset}
 use Rattle.shortened.specs.Fits.{Fits}
 use Rattle.shortened.specs.Setting.{Setting, short_code}
 use Rattle.demands.specs.Alike.{Alike}

@@ -25,7 +25,7 @@ use Rattle.params.specs.declared.Parameters.{Parameters}
 use Rattle.params.specs.Code.{Accepted}
 use Rattle.shortened.specs.Fits.{Fits}
 use Rattle.shortened.specs.Setting.{Setting, places, columns_of, setting_rules}
-use Rattle.shortened.specs.SettingLaws.{setting_leaves, setting_fault, length_columns}
+use Rattle.shortened.proofs.SettingLaws.{setting_leaves, setting_fault, length_columns}
 use Rattle.turns.specs.Turns.{next_turn}
 use Rattle.turns.specs.TurnLaws.{next_below}
 use Rattle.scheduler.specs.declared.Dash.{Dash}
@@ -35,9 +35,9 @@ use Rattle.scheduler.specs.Round.{is_other, leaves, waiting_at, round_waiting, r
 use Rattle.scheduler.specs.Answers.{start_answer, start_fault, start_waiting, start_next, offer_fault}
 use Rattle.scheduler.specs.Answers.{offer_waiting, offer_words, round_lengths, round_words, round_rules, round_fault}
 use Rattle.scheduler.specs.Answers.{round_answer}
-use Rattle.scheduler.specs.CallLaws.{start_made, start_waiting_lem, start_next_lem, OfferMade, offer_made, offer_unchanged}
-use Rattle.scheduler.specs.CallLaws.{offered_long, offered_mark, offered_word, kept_mark_lem, kept_word}
-use Rattle.scheduler.specs.CallLaws.{round_made, round_unchanged, waiting_at_lem}
+use Rattle.scheduler.proofs.CallLaws.{start_made, start_waiting_lem, start_next_lem, OfferMade, offer_made, offer_unchanged}
+use Rattle.scheduler.proofs.CallLaws.{offered_long, offered_mark, offered_word, kept_mark_lem, kept_word}
+use Rattle.scheduler.proofs.CallLaws.{round_made, round_unchanged, waiting_at_lem}
 use Rattle.scheduler.specs.Play.{Event.offer, Event.round, after, Reached, Reached.started, Reached.offered, Reached.rounded}
 
 -- ---- what holds in every state that is reached

@@ -31,23 +31,23 @@ use Rattle.columns.specs.Choice.{Choice, Choice.whole_code, Choice.selection, se
 use Rattle.shortened.specs.Fits.{Fits}
 use Rattle.shortened.specs.Marks.{mark_rules}
 use Rattle.shortened.specs.Setting.{Setting, shortened, places, columns_of, setting_rules}
-use Rattle.shortened.specs.SettingLaws.{setting_numbered, setting_accepted, setting_leaves, setting_fault, length_columns}
+use Rattle.shortened.proofs.SettingLaws.{setting_numbered, setting_accepted, setting_leaves, setting_fault, length_columns}
 use Rattle.nearest.specs.Repair.{distance}
-use Rattle.nearest.specs.Search.{distance_comm}
+use Rattle.nearest.proofs.Search.{distance_comm}
 use Rattle.nearest.specs.Turned.{turned}
-use Rattle.nearest.specs.TurnedLaws.{length-turned, turned_bits, turned-distance}
+use Rattle.nearest.proofs.TurnedLaws.{length-turned, turned_bits, turned-distance}
 use Rattle.gears.specs.Messages.{row_lamp, lamp_number_lem}
 use Rattle.gears.specs.Rows.{is_row, row_bits, row_of}
 use Rattle.rows.specs.declared.Reading.TheVariants.{Refused as NotRead}
 use Rattle.rows.specs.Answers.{row_read, reading_answer, write_answer, write_after, read_fault, read_answer}
-use Rattle.rows.specs.Laws.{answer_is, row_written, written_is, written_bits, turned_read, read_counted, read_within, read_repaired}
-use Rattle.rows.specs.Laws.{read_apart, same_reading}
+use Rattle.rows.proofs.Laws.{answer_is, row_written, written_is, written_bits, turned_read, read_counted, read_within, read_repaired}
+use Rattle.rows.proofs.Laws.{read_apart, same_reading}
 use Rattle.simulation.specs.declared.Verdict.{Verdict}
 use Rattle.simulation.specs.declared.Verdict.TheVariants.{Right}
 use Rattle.simulation.specs.Steps.{Steps, step_count, gear_at, lamp_at, step_rules, marks_at, rules_at, steps_rules, is_made}
-use Rattle.simulation.specs.StepLaws.{Passes, PassBelow, first_refused, made_is, made, steps_pass, steps_stop}
+use Rattle.simulation.proofs.StepLaws.{Passes, PassBelow, first_refused, made_is, made, steps_pass, steps_stop}
 use Rattle.simulation.specs.Ride.{verdict_of, is_right, is_held, is_wrong, is_marked, step_word, step_verdict, verdict_at, counts_up_to, ride_counts}
-use Rattle.simulation.specs.RideLaws.{counts_stop, counts_add, counts_made, counts_right}
+use Rattle.simulation.proofs.RideLaws.{counts_stop, counts_add, counts_made, counts_right}
 use Rattle.simulation.specs.Lent.{LentSteps}
 use Rattle.simulation.specs.LentLaws.{lent_exactly, lent_passes}
 use Rattle.simulation.specs.Answers.{ride_lengths, marks_long, start_rules, ride_rules}

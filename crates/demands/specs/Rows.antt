@@ -19,8 +19,8 @@ use Rattle.params.specs.Code.{Accepted}
 use Rattle.parity.specs.Columns.{is_message_column, dimension, message_of}
 use Rattle.shortened.specs.Fits.{Fits}
 use Rattle.shortened.specs.Setting.{Setting, places, columns_of}
-use Rattle.shortened.specs.SettingLaws.{setting_leaves, fits_selected}
-use Rattle.nearest.specs.Demand.{repaired_code_word}
+use Rattle.shortened.proofs.SettingLaws.{setting_leaves, fits_selected}
+use Rattle.nearest.proofs.Demand.{repaired_code_word}
 use Rattle.nearest.specs.Repair.{distance, is_repairable, repaired_of}
 use Rattle.repair.specs.declared.Recovery.TheVariants.{Repaired}
 use Rattle.repair.specs.Answers.{word_rules, turned_count, repair_answer, repair_after}
@@ -30,7 +30,7 @@ use Rattle.gears.specs.Rows.{high_neutral, is_row, row_bits, row_message, gear_i
 use Rattle.gears.specs.Messages.{message_is_row, message_only, high_message}
 use Rattle.rows.specs.declared.Reading.TheVariants.{Read, Refused}
 use Rattle.rows.specs.Answers.{write_rules, write_fault, write_answer, write_after, carried, read_rules, row_read, read_fault, read_answer, read_after}
-use Rattle.rows.specs.Laws.{chosen_bits, row_written, turned_read, turned_repaired}
+use Rattle.rows.proofs.Laws.{chosen_bits, row_written, turned_read, turned_repaired}
 use Rattle.demands.specs.CodeWords.{bits_on}
 use Rattle.demands.specs.Demand3.{repaired_ends, refused_ends}
 

@@ -27,17 +27,17 @@ use Rattle.parity.specs.SameMatrix.{SameMatrix}
 use Rattle.parity.specs.SameMatrixLaws.{same_syndrome, same_code_words, same_roles, same_dimension, same_messages, same_encoding}
 use Rattle.parity.specs.Word.{syndrome_of, is_code_word}
 use Rattle.columns.specs.Choice.{Choice, all_places, all_columns, choice_rules}
-use Rattle.columns.specs.ChoiceLaws.{choice_numbered, choice_accepted, length_all}
+use Rattle.columns.proofs.ChoiceLaws.{choice_numbered, choice_accepted, length_all}
 use Rattle.columns.specs.Fits.{ChoiceFits}
 use Rattle.shortened.specs.Marks.{sent_dimension, mark_rules}
 use Rattle.shortened.specs.Setting.{Setting, shortened, places, columns_of, setting_rules}
-use Rattle.shortened.specs.SettingLaws.{setting_numbered, length_columns}
-use Rattle.shortened.specs.ShortMatrix.{same_marks, same_sent_dimension, short_matrix}
+use Rattle.shortened.proofs.SettingLaws.{setting_numbered, length_columns}
+use Rattle.shortened.proofs.ShortMatrix.{same_marks, same_sent_dimension, short_matrix}
 use Rattle.messages.specs.MessageRules.{message_rules}
 use Rattle.words.specs.Answers.{bit_rules, roles_rules, roles_fault, roles_answer, roles_after, syndrome_fault, syndrome_answer, syndrome_after}
 use Rattle.words.specs.Answers.{encode_fault, encode_answer, encode_after, message_fault, message_answer, message_after}
 use Rattle.gears.specs.Rows.{is_row, row_bits, row_message, gear_in, lamp_in, is_row_message, row_of}
-use Rattle.nearest.specs.SameRepair.{same_repairable, same_repaired}
+use Rattle.nearest.proofs.SameRepair.{same_repairable, same_repaired}
 use Rattle.nearest.specs.Repair.{distance, repaired_of}
 use Rattle.nearest.specs.Turned.{turned}
 use Rattle.repair.specs.declared.Recovery.{Recovery}

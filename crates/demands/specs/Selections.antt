@@ -16,11 +16,11 @@ use Rattle.refusals.specs.Rules.{Rule, ◌unless◌, fault, unless_refused}
 use Rattle.refusals.specs.RuleLaws.{fault_here, fault_past, refuse}
 use Rattle.slices.specs.Bits.{all_bits}
 use Rattle.params.specs.declared.Parameters.{Parameters}
-use Rattle.params.specs.Calls.{code_leaves}
+use Rattle.params.proofs.Calls.{code_leaves}
 use Rattle.params.specs.Code.{Accepted, code_rules}
 use Rattle.parity.specs.Columns.{dimension}
 use Rattle.columns.specs.Choice.{Choice.selection, all_columns, all_below, has_lengths, selection_rules, choice_rules}
-use Rattle.columns.specs.ChoiceLaws.{below_is, beyond_is}
+use Rattle.columns.proofs.ChoiceLaws.{below_is, beyond_is}
 use Rattle.shortened.specs.Marks.{mark_rules}
 use Rattle.shortened.specs.Setting.{Setting, short_selection, places, columns_of, is_marked, setting_rules}
 use Rattle.messages.specs.MessageRules.{message_rules}
@@ -30,7 +30,7 @@ use Rattle.repair.specs.declared.Recovery.TheVariants.{Refused as NotRepaired}
 use Rattle.repair.specs.Answers.{word_rules, repair_fault, repair_answer}
 use Rattle.rows.specs.declared.Reading.TheVariants.{Refused as NotRead}
 use Rattle.rows.specs.Answers.{write_rules, read_rules, row_read, write_fault, write_answer, read_fault, read_answer}
-use Rattle.rows.specs.Laws.{read_apart, same_reading}
+use Rattle.rows.proofs.Laws.{read_apart, same_reading}
 use Rattle.demands.specs.Lowest.{lacks, fault-lacks}
 use Rattle.demands.specs.Outcomes.{repaired_apart, same_recovery}
 

@@ -20,7 +20,7 @@ use Rattle.params.specs.Code.{Accepted}
 use Rattle.parity.specs.Word.{is_code_word}
 use Rattle.shortened.specs.Fits.{Fits}
 use Rattle.shortened.specs.Setting.{Setting, places, columns_of}
-use Rattle.shortened.specs.SettingLaws.{setting_leaves, length_columns}
+use Rattle.shortened.proofs.SettingLaws.{setting_leaves, length_columns}
 use Rattle.nearest.specs.Repair.{repaired_of}
 use Rattle.repair.specs.declared.Recovery.TheVariants.{Repaired, Refused as NotRepaired}
 use Rattle.repair.specs.Answers.{word_rules, turned_count, repair_fault, repair_answer, repair_after}
@@ -34,8 +34,8 @@ use Rattle.scheduler.specs.StateLaws.{turn_inside}
 use Rattle.scheduler.specs.Round.{none, is_whole, is_other, leaves, round_next}
 use Rattle.scheduler.specs.Answers.{start_answer, start_fault, start_waiting, start_next, offer_answer, offer_fault, offer_waiting, offer_words}
 use Rattle.scheduler.specs.Answers.{round_answer, round_fault, waiting_after, next_after, answers_after, handed_after}
-use Rattle.scheduler.specs.CallLaws.{start_waiting_lem, start_next_lem, OfferMade, offer_made, offered_mark, offered_word, kept_mark_lem, kept_word}
-use Rattle.scheduler.specs.CallLaws.{RoundMade, round_made, left_answer, left_handed, left_waiting, stayed_answer, stayed_handed, stayed_waiting}
+use Rattle.scheduler.proofs.CallLaws.{start_waiting_lem, start_next_lem, OfferMade, offer_made, offered_mark, offered_word, kept_mark_lem, kept_word}
+use Rattle.scheduler.proofs.CallLaws.{RoundMade, round_made, left_answer, left_handed, left_waiting, stayed_answer, stayed_handed, stayed_waiting}
 use Rattle.demands.specs.Interface.{recovery_apart}
 
 -- ---- the start and an offer

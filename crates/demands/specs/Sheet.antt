@@ -26,8 +26,8 @@ use Rattle.fields.specs.Over.{over}
 use Rattle.signature.specs.Signature.{support_at}
 use Rattle.signature.specs.Tests.{signature_rules}
 use Rattle.params.specs.declared.Parameters.{Parameters}
-use Rattle.params.specs.Accepted.{accepted_pair, n_short}
-use Rattle.params.specs.Calls.{code_leaves}
+use Rattle.params.proofs.Accepted.{accepted_pair, n_short}
+use Rattle.params.proofs.Calls.{code_leaves}
 use Rattle.params.specs.Code.{Accepted, shape_rules, code_rules}
 use Rattle.parity.specs.Columns.{is_message_column, roles_of, message_length}
 use Rattle.parity.specs.ColumnLaws.{message_length-le}

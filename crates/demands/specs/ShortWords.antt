@@ -28,7 +28,7 @@ use Rattle.shortened.specs.Marks.{is_sent, sent_count, sent_of, full_word, sent_
 use Rattle.shortened.specs.MarkLaws.{length_sent, full_sent, full_hidden, length_full, sent_of_full, full_of_sent}
 use Rattle.shortened.specs.MarkLaws.{full_bits, From, from, sent_from}
 use Rattle.shortened.specs.Setting.{Setting, places, columns_of}
-use Rattle.shortened.specs.SettingLaws.{fits_marked}
+use Rattle.shortened.proofs.SettingLaws.{fits_marked}
 use Rattle.shortened.specs.ShortCode.{syndrome_short, role_short, dimension_short, message_short}
 use Rattle.nearest.specs.Repair.{differs, distance}
 use Rattle.words.specs.Answers.{encode_answer, encode_after, message_after}

@@ -32,8 +32,8 @@ use Rattle.scheduler.specs.State.{State, word_at}
 use Rattle.scheduler.specs.StateLaws.{dash_some, turn_inside}
 use Rattle.scheduler.specs.Round.{none, is_whole, is_other, leaves, round_next}
 use Rattle.scheduler.specs.Answers.{offer_fault, offer_waiting, offer_words, round_fault, waiting_after, next_after, answers_after}
-use Rattle.scheduler.specs.CallLaws.{offer_made, offer_unchanged, kept_mark_lem, kept_word}
-use Rattle.scheduler.specs.CallLaws.{RoundMade, round_made, round_unchanged, left_answer, stayed_answer, stayed_waiting}
+use Rattle.scheduler.proofs.CallLaws.{offer_made, offer_unchanged, kept_mark_lem, kept_word}
+use Rattle.scheduler.proofs.CallLaws.{RoundMade, round_made, round_unchanged, left_answer, stayed_answer, stayed_waiting}
 use Rattle.scheduler.specs.Play.{Event, Event.offer, Event.round, after, Reached, rounds_made, first_of, first_answer}
 use Rattle.demands.specs.Interface.{recovery_apart}
 use Rattle.demands.specs.Senders.{repair_alone}

@@ -11,7 +11,7 @@ use Rattle.algebra.specs.Filling.{filling_start, filling_turn, filling_end}
 use Rattle.algebra.specs.Xor.{◌⊕◌}
 use Rattle.algebra.specs.XorLaws.{zero-⊕}
 use Rattle.field.specs.Gf.{gf}
-use Rattle.field.specs.GfLaws.{gf_laws}
+use Rattle.field.proofs.GfLaws.{gf_laws}
 use Rattle.field.specs.Product.{product}
 use Rattle.field.specs.Words.{word}
 use Rattle.dyadic.specs.Block.{block_sum, block_product}

@@ -9,13 +9,13 @@ use lib.Pow.{pow_pos}
 use lib.ListN.{length, drop}
 use Rattle.algebra.specs.Field.{Laws}
 use Rattle.field.specs.Gf.{Width, gf}
-use Rattle.field.specs.GfLaws.{gf_laws}
+use Rattle.field.proofs.GfLaws.{gf_laws}
 use Rattle.slices.specs.Lengths.{longest_log, longest}
 use Rattle.slices.specs.Elements.{Elements}
 use Rattle.dyadic.specs.Block.{block_sum, block_product}
 use Rattle.dyadic.specs.Entries.{length_sum, length_product}
 use Rattle.dyadic.specs.Sums.{sum_append, sum_assoc, sum_cancel, sum_through}
-use Rattle.dyadic.specs.Laws.{product_three_halves}
+use Rattle.dyadic.proofs.Laws.{product_three_halves}
 use Rattle.dyadic.specs.Callers.{Factors}
 use Rattle.dyadic.specs.Folded.{folded}
 use Rattle.dyadic.specs.Count.{Counted}

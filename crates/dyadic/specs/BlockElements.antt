@@ -7,7 +7,7 @@ use Rattle.algebra.specs.Tabulate.{tabulate}
 use Rattle.algebra.specs.TabulateLaws.{length-tabulate, get_d_tabulate}
 use Rattle.algebra.specs.Xor.{◌⊕◌}
 use Rattle.field.specs.Gf.{Width, gf}
-use Rattle.field.specs.GfLaws.{gf_laws}
+use Rattle.field.proofs.GfLaws.{gf_laws}
 use Rattle.slices.specs.Elements.{Elements}
 use Rattle.dyadic.specs.Block.{block_sum, block_product, quotient, block_inverse}
 

@@ -5,8 +5,6 @@ pub mod Convolution
 pub mod Entries
 pub mod BlockElements
 pub mod Sums
-pub mod Inverse
-pub mod Laws
 pub mod Callers
 pub mod Folded
 pub mod Count

@@ -22,12 +22,12 @@ use Rattle.signature.specs.Tests.{inverse_at, no_zero}
 use Rattle.signature.specs.TestLaws.{EqualToFirst, no_zero_is}
 use Rattle.signature.proofs.Inverses.{affine_first}
 use Rattle.essence.specs.Choices.{choice_sum, dependent}
-use Rattle.essence.specs.ChoiceLaws.{independent_is}
+use Rattle.essence.proofs.ChoiceLaws.{independent_is}
 use Rattle.essence.specs.Essence.{chosen_at, signature_of}
-use Rattle.essence.specs.ChosenLaws.{chosen_in, chosen_affine, chosen_nonzero, chosen_distinct, independent_by}
-use Rattle.essence.specs.EssenceLaws.{signature_long, signature_entry}
+use Rattle.essence.proofs.ChosenLaws.{chosen_in, chosen_affine, chosen_nonzero, chosen_distinct, independent_by}
+use Rattle.essence.proofs.EssenceLaws.{signature_long, signature_entry}
 use Rattle.essence.specs.Shape.{Shape}
-use Rattle.essence.specs.ShapeLaws.{shape_values}
+use Rattle.essence.proofs.ShapeLaws.{shape_values}
 
 module _ {m n : ℕ} {v table : List ℕ} (S : Shape m v n (length v)) (stored : table ≡ tabulate n (λ i. choice_sum m v (n + i))) where
   abbrev e : ℕ

@@ -1,5 +1,9 @@
-pub mod Shaped
+pub mod ChoiceLaws
 pub mod Choosing
-pub mod Storing
+pub mod ChosenLaws
 pub mod Converting
 pub mod Ending
+pub mod EssenceLaws
+pub mod ShapeLaws
+pub mod Shaped
+pub mod Storing

@@ -18,7 +18,7 @@ use Rattle.signature.specs.Tests.{inverse_at, signature_rules}
 use Rattle.essence.specs.Answers.{is_value_count, shape_rules, essence_rules, essence_fault}
 use Rattle.essence.specs.Essence.{essence_from, essence_of}
 use Rattle.essence.specs.Shape.{Shape}
-use Rattle.essence.specs.ShapeLaws.{value_count, shape_is}
+use Rattle.essence.proofs.ShapeLaws.{value_count, shape_is}
 
 pub shaped : (m : ℕ) (a : List ℕ) (n k : ℕ) → fault (shape_rules m a n k) ≡ 0 → Shape m a n k
 unfolding shape_rules

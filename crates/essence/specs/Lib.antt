@@ -1,9 +1,5 @@
 pub mod Choices
-pub mod ChoiceLaws
 pub mod Essence
 pub mod Affine
-pub mod ChosenLaws
-pub mod EssenceLaws
 pub mod Answers
 pub mod Shape
-pub mod ShapeLaws

@@ -1,2 +1,5 @@
-pub mod Shift
 pub mod Checked
+pub mod GfLaws
+pub mod ProductByU
+pub mod Shift
+pub mod Test

@@ -12,12 +12,12 @@ use Rattle.algebra.specs.Xor.{◌⊕◌}
 use Rattle.algebra.specs.XorLaws.{⊕_assoc, ⊕-zero, zero-⊕, ⊕-lt}
 use Rattle.field.specs.Product.{product, squares, inverse}
 use Rattle.field.specs.Horner.{horner, horner-times_u}
-use Rattle.field.specs.ProductByU.{over_is_bit}
+use Rattle.field.proofs.ProductByU.{over_is_bit}
 use Rattle.field.specs.Ring.{Degree, bit_lt, product-horner, product_lt, product-one, product_comm, product_assoc, product_u}
 use Rattle.field.specs.Inverse.{inverse-lt}
 use Rattle.field.specs.Words.{word, widest}
 use Rattle.field.specs.Gf.{Width}
-use Rattle.field.specs.GfLaws.{gf_is_field}
+use Rattle.field.proofs.GfLaws.{gf_is_field}
 use Rattle.field.specs.Range.{is_element}
 
 -- the range test by a shift: a number is below 2^m exactly if nothing is left of it

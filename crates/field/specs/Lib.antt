@@ -4,10 +4,7 @@ pub mod Ring
 pub mod Division
 pub mod Inverse
 pub mod Words
-pub mod Test
 pub mod Gf
-pub mod GfLaws
-pub mod ProductByU
 pub mod Range
 pub mod RangeLaws
 pub mod Answers

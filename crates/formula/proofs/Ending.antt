@@ -22,7 +22,7 @@ use Rattle.formula.specs.Grammar.{sum_text}
 use Rattle.formula.specs.Reading.{longest_text, deepest, Reads, formula, none, IsReading}
 use Rattle.formula.specs.Answers.{lent_rules, lent_fault, reading_rules, reading_block, formula_rules, formula_fault}
 use Rattle.formula.specs.Answers.{formula_answer, formula_after, Answered}
-use Rattle.formula.specs.Deciding.{no_reading, decided}
+use Rattle.formula.proofs.Deciding.{no_reading, decided}
 use Rattle.formula.specs.Evaluated.{sums, Held, Finds, Worked}
 use Rattle.formula.proofs.Refusing.{no_more}
 use Rattle.formula.proofs.Found.{found_read, found_none}

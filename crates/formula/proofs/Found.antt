@@ -18,7 +18,7 @@ use Rattle.formula.specs.Letters.{Lent, is_lent, plus_byte, times_byte, over_byt
 use Rattle.dyadic.specs.Invertible.{is_invertible}
 use Rattle.formula.specs.Callers.{Ready, LetterIs, Fetched}
 use Rattle.formula.specs.Parser.{multiplied, divided}
-use Rattle.formula.specs.Passing.{product_times, product_over}
+use Rattle.formula.proofs.Passing.{product_times, product_over}
 use Rattle.formula.specs.Evaluated.{Kind, sums, products, terms, Held, Ends, NoneAt, OnFound, Finds, Moves}
 use Rattle.formula.proofs.Steps.{on, held_letter, held_bracket, held_term, held_product, held_times, held_over, held_plus}
 use Rattle.formula.proofs.Steps.{term_moves, product_moves}

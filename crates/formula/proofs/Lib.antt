@@ -1,4 +1,10 @@
-pub mod Steps
-pub mod Refusing
-pub mod Found
+pub mod Deciding
 pub mod Ending
+pub mod Found
+pub mod Passing
+pub mod Refusing
+pub mod SingleReading
+pub mod Steps
+pub mod Tokens
+pub mod ValueLaws
+pub mod Written

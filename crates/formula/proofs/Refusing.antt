@@ -11,10 +11,10 @@ use Rattle.formula.specs.declared.evaluators.Cursor.{Cursor}
 use Rattle.formula.specs.Letters.{Letter, letter_byte, Lent, is_lent, plus_byte, open_byte, close_byte}
 use Rattle.formula.specs.Reading.{none}
 use Rattle.formula.specs.Parser.{Sums, first, after, Products, Front, State, operand, token, step, run, start}
-use Rattle.formula.specs.Passing.{sum_front_of, sum_last_of, after_product, after_sum, sum_plus, sum_passes, product_passes}
+use Rattle.formula.proofs.Passing.{sum_front_of, sum_last_of, after_product, after_sum, sum_plus, sum_passes, product_passes}
 use Rattle.formula.specs.Evaluated.{sums, products, terms, Held, Ends, NoneAt}
 use Rattle.algebra.specs.ListLaws.{here_is}
-use Rattle.formula.specs.Tokens.{operand_fails, operator_fails, stopped}
+use Rattle.formula.proofs.Tokens.{operand_fails, operator_fails, stopped}
 use Rattle.formula.proofs.Steps.{on, byte_at}
 
 module _ (m : ℕ) (β : Lent) (text : List ℕ) where

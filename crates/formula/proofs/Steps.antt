@@ -18,7 +18,7 @@ use Rattle.dyadic.specs.Invertible.{is_invertible}
 use Rattle.formula.specs.Value.{sum_block, term_block, sum_exists, product_exists, term_exists}
 use Rattle.formula.specs.Evaluated.{Kind, sums, products, terms, text_of, Held}
 use Rattle.algebra.specs.ListLaws.{inside, here_is}
-use Rattle.formula.specs.Written.{term_written, product_written}
+use Rattle.formula.proofs.Written.{term_written, product_written}
 use Rattle.dyadic.specs.BlockElements.{sum_elements, product_elements, inverse_elements}
 
 -- the cursor after a byte

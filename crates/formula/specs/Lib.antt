@@ -5,11 +5,5 @@ pub mod Value
 pub mod Answers
 pub mod Callers
 pub mod CallerLaws
-pub mod ValueLaws
 pub mod Parser
-pub mod Passing
 pub mod Evaluated
-pub mod Tokens
-pub mod Written
-pub mod SingleReading
-pub mod Deciding

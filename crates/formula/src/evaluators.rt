@@ -179,7 +179,8 @@ fn multiply_term(
     let Found::Read(end) = found else {
         return Found::Nothing;
     };
-    if byte_at(text, from.at) == b'*' {
+    let times = byte_at(text, from.at) == b'*';
+    if times {
         values::multiply(m, value, &mut room[..s]);
         return Found::Read(end);
     }

@@ -9,7 +9,7 @@ use Rattle.algebra.specs.Parts.{joined}
 use Rattle.algebra.specs.Tabulate.{tabulate}
 use Rattle.slices.specs.Lengths.{longest}
 use Rattle.params.specs.declared.Parameters.{Parameters}
-use Rattle.params.specs.Accepted.{n_short}
+use Rattle.params.proofs.Accepted.{n_short}
 use Rattle.params.specs.Code.{Accepted}
 use Rattle.signature.specs.Inverses.{Inverted, added}
 use Rattle.signature.proofs.Stored.{support_is}

@@ -8,7 +8,7 @@ use native.Mathlib.Omega.{arith}
 use Rattle.std.proofs.Math.ListN.{length}
 use Rattle.std.proofs.lemmas.Bool.{lt-leb}
 use Rattle.refusals.specs.RuleLaws.{fault_here, fault_past, fault_empty, refuse, accept}
-use Rattle.params.specs.Accepted.{n_short}
+use Rattle.params.proofs.Accepted.{n_short}
 use Rattle.fields.specs.Fields.{line_text}
 use Rattle.fields.specs.Reading.{length_line}
 use Rattle.fields.specs.Over.{over}

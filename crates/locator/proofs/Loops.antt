@@ -16,7 +16,7 @@ use Rattle.algebra.specs.TabulateLaws.{length-tabulate, get_d_tabulate}
 use Rattle.algebra.specs.Filling.{filled, Filling, filling_start, filling_turn, filling_length, filling_index, filling_old}
 use Rattle.algebra.specs.Xor.{◌⊕◌}
 use Rattle.field.specs.Gf.{Width, gf}
-use Rattle.field.specs.GfLaws.{gf_laws}
+use Rattle.field.proofs.GfLaws.{gf_laws}
 use Rattle.field.specs.Product.{product}
 use Rattle.field.specs.Words.{word}
 use Rattle.slices.specs.Lengths.{longest}

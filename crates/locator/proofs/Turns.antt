@@ -15,7 +15,7 @@ use Rattle.algebra.specs.Locator.Split.{Halves, discrepancy}
 use Rattle.algebra.specs.Locator.Nodal.{Points}
 use Rattle.algebra.specs.Locator.Pass.{Pivot, Pivot.smaller, Pivot.remaining, Raised, Reduced, Step, Step.first_pivot, Step.second_pivot, pass_start, pass_step, pass_swap}
 use Rattle.field.specs.Gf.{Width, gf}
-use Rattle.field.specs.GfLaws.{gf_laws}
+use Rattle.field.proofs.GfLaws.{gf_laws}
 use Rattle.algebra.specs.Lists.{entry_of}
 use Rattle.locator.specs.Coefficients.{halves_of, Half, Pair, Combined, Lifted, Turned, Choice, Choice.first, Choice.second, Advanced, Constant, Started, Passed, Located}
 use Rattle.locator.proofs.Loops.{constant_value}

@@ -5,7 +5,7 @@ use Prim.Native.Nat.{ℕ, ◌<◌, ◌^◌}
 use Rattle.algebra.specs.Locator.Split.{value, discrepancy, in_discrepancy}
 use Rattle.algebra.specs.Xor.{◌⊕◌}
 use Rattle.field.specs.Gf.{Width, gf}
-use Rattle.field.specs.GfLaws.{gf_laws}
+use Rattle.field.proofs.GfLaws.{gf_laws}
 use Rattle.locator.specs.Coefficients.{evaluate, halves_of}
 
 module _ (m : ℕ) (even odd : List ℕ) where

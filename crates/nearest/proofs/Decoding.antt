@@ -22,16 +22,15 @@ use Rattle.slices.specs.Bits.{IsBits}
 use Rattle.slices.specs.Elements.{Elements}
 use Rattle.slices.specs.Lengths.{longest}
 use Rattle.params.specs.declared.Parameters.{Parameters}
-use Rattle.params.specs.Accepted.{accepted_pair, n_short, t_short}
+use Rattle.params.proofs.Accepted.{accepted_pair, n_short, t_short}
 use Rattle.signature.specs.Signature.{root_at, support_at}
 use Rattle.signature.specs.Inverses.{Inverted, added}
 use Rattle.signature.proofs.Stored.{roots_are, support_is}
 use Rattle.parity.specs.Parity.{Summed, signature_sum, signature_syndrome, signature_in}
 use Rattle.parity.specs.Selected.{OnColumns}
 use Rattle.locator.specs.Coefficients.{halves_of, Syndrome, Located}
-use Rattle.nearest.specs.Decoding.{root_place, Candidate}
-use Rattle.nearest.specs.Errors.{roots}
-use Rattle.nearest.specs.Found.{is_error}
+use Rattle.nearest.specs.Decoding.{is_error, root_place, Candidate}
+use Rattle.nearest.proofs.Errors.{roots}
 use Rattle.nearest.specs.Turned.{turned}
 
 -- ---- `turn_roots`: the places passed hold the bits turned where p holds, `number` of them, and the rest is as it was

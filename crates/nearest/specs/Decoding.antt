@@ -7,17 +7,20 @@ use Rattle.algebra.specs.Places.{count}
 use Rattle.field.specs.Gf.{gf}
 use Rattle.slices.specs.Bits.{IsBits}
 use Rattle.params.specs.declared.Parameters.{Parameters}
-use Rattle.signature.specs.Signature.{root_at}
+use Rattle.signature.specs.Signature.{root_at, support_at}
 use Rattle.signature.specs.Inverses.{Inverted}
 use Rattle.parity.specs.Selected.{OnColumns}
 use Rattle.parity.specs.Word.{syndrome_at}
 use Rattle.locator.specs.Coefficients.{halves_of}
-use Rattle.nearest.specs.Found.{is_error}
 use Rattle.nearest.specs.Turned.{turned}
 
 -- the support of place j, by its column, is a root of the pair
 unfoldable pub root_place : ℕ → List ℕ → List ℕ → List ℕ → List ℕ → ℕ → Bool
 root_place m even odd support cols j = eqb (value (gf m) (halves_of (gf m) even odd) (entry_of support (entry_of cols j))) 0
+
+-- the support of place j is a root of the pair
+unfoldable pub is_error : Parameters → List ℕ → List ℕ → Halves ℕ → ℕ → Bool
+is_error c h cols pair j = eqb (value (gf c.m) pair (support_at (gf c.m) c.omega (entry_of h) (entry_of cols j))) 0
 
 -- a code with its inverses, columns of it, and a word received
 pub record Received (c : Parameters) (h inverses cols received : List ℕ) : Type 0 where

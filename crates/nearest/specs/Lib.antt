@@ -1,12 +1,6 @@
 pub mod Decoding
-pub mod Demand
 pub mod CodeWord
-pub mod Errors
 pub mod Exists
-pub mod Found
-pub mod SameRepair
 pub mod Places
 pub mod Repair
-pub mod Search
 pub mod Turned
-pub mod TurnedLaws

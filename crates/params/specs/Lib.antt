@@ -1,3 +1,1 @@
 pub mod Code
-pub mod Accepted
-pub mod Calls

@@ -25,7 +25,7 @@ use Rattle.algebra.specs.Tabulate.{tabulate}
 use Rattle.algebra.specs.TabulateLaws.{length-tabulate, get_d_tabulate, tabulate_cong, tabulate-get_or}
 use Rattle.algebra.specs.Xor.{◌⊕◌}
 use Rattle.field.specs.Gf.{Width, gf}
-use Rattle.field.specs.GfLaws.{gf_laws}
+use Rattle.field.proofs.GfLaws.{gf_laws}
 use Rattle.slices.specs.Bits.{Bits, IsBits}
 use Rattle.slices.specs.BitLaws.{bits_anywhere}
 use Rattle.params.specs.declared.Parameters.{Parameters}

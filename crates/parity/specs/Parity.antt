@@ -13,12 +13,12 @@ use Rattle.algebra.specs.Sum.{sum}
 use Rattle.algebra.specs.SumLaws.{sum_cong, in_sum}
 use Rattle.algebra.specs.Xor.{◌⊕◌}
 use Rattle.field.specs.Gf.{Width, gf}
-use Rattle.field.specs.GfLaws.{gf_laws}
+use Rattle.field.proofs.GfLaws.{gf_laws}
 use Rattle.slices.specs.Bits.{Bits}
 use Rattle.slices.specs.Elements.{Elements}
 use Rattle.basis.specs.Table.{Reaches}
 use Rattle.params.specs.declared.Parameters.{Parameters}
-use Rattle.params.specs.Accepted.{accepted_pair, index_below}
+use Rattle.params.proofs.Accepted.{accepted_pair, index_below}
 use Rattle.params.specs.Code.{Accepted}
 use Rattle.parity.specs.Selected.{Selected}
 use Rattle.parity.specs.Word.{parity_at, held, syndrome_at}

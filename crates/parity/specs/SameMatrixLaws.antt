@@ -20,7 +20,7 @@ use Rattle.algebra.specs.TabulateLaws.{tabulate_cong}
 use Rattle.field.specs.Gf.{gf}
 use Rattle.params.specs.declared.Parameters.{Parameters}
 use Rattle.params.specs.Code.{with_offset}
-use Rattle.params.specs.Accepted.{offset_accepted}
+use Rattle.params.proofs.Accepted.{offset_accepted}
 use Rattle.parity.specs.Columns.{word_of, is_sum_of, is_sum, is_message_column, roles_of, dimension, message_of, encoding_of}
 use Rattle.parity.specs.SameMatrix.{SameMatrix}
 use Rattle.parity.specs.Parity.{entry_signature}

@@ -8,7 +8,7 @@ use Rattle.algebra.specs.Tabulate.{tabulate}
 use Rattle.algebra.specs.TabulateLaws.{length-tabulate, get_d_tabulate}
 use Rattle.params.specs.declared.Parameters.{Parameters}
 use Rattle.slices.specs.Lengths.{longest}
-use Rattle.params.specs.Accepted.{n_short}
+use Rattle.params.proofs.Accepted.{n_short}
 use Rattle.params.specs.Code.{Accepted}
 use Rattle.parity.specs.Word.{whole}
 

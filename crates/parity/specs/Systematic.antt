@@ -20,7 +20,7 @@ use Rattle.algebra.specs.SumLaws.{sum_cong, sum-nought, sum_split}
 use Rattle.algebra.specs.Xor.{◌⊕◌}
 use Rattle.algebra.specs.XorLaws.{⊕_self, ⊕-zero, zero-⊕, ⊕_eq}
 use Rattle.field.specs.Gf.{Width, gf}
-use Rattle.field.specs.GfLaws.{gf_laws}
+use Rattle.field.proofs.GfLaws.{gf_laws}
 use Rattle.parity.specs.Word.{held}
 use Rattle.parity.specs.Columns.{is_sum_of, is_sum}
 use Rattle.algebra.specs.Places.{count}

@@ -14,12 +14,12 @@ use Rattle.slices.specs.BitLaws.{bits_are}
 use Rattle.params.specs.declared.Parameters.{Parameters}
 use Rattle.parity.specs.Selected.{OnColumns}
 use Rattle.parity.specs.Word.{is_code_word}
-use Rattle.nearest.specs.Decoding.{Candidate}
-use Rattle.nearest.specs.Demand.{near_unique, repaired_code_word, repaired_within}
-use Rattle.nearest.specs.Found.{is_error, repaired_found, not_found}
+use Rattle.nearest.specs.Decoding.{is_error, Candidate}
+use Rattle.nearest.proofs.Demand.{near_unique, repaired_code_word, repaired_within}
+use Rattle.nearest.proofs.Found.{repaired_found, not_found}
 use Rattle.nearest.specs.Repair.{distance, is_repairable, repaired_of}
-use Rattle.nearest.specs.Search.{near, repairable, distance_self}
-use Rattle.nearest.specs.TurnedLaws.{length-turned, turned_bits}
+use Rattle.nearest.proofs.Search.{near, repairable, distance_self}
+use Rattle.nearest.proofs.TurnedLaws.{length-turned, turned_bits}
 use Rattle.repair.specs.declared.Recovery.{Recovery}
 use Rattle.repair.specs.declared.Recovery.TheVariants.{Repaired, Refused}
 use Rattle.repair.specs.Answers.{word_rules, turned_count}

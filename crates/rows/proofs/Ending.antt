@@ -31,7 +31,7 @@ use Rattle.gears.specs.Messages.{length_message, message_bits}
 use Rattle.rows.specs.declared.Reading.{Reading}
 use Rattle.rows.specs.declared.Reading.TheVariants.{Read, Refused as NotRead}
 use Rattle.rows.specs.Answers.{write_rules, row_word, carried, read_rules, row_read, reading_answer, reading_after}
-use Rattle.rows.specs.Laws.{read_is, read_apart}
+use Rattle.rows.proofs.Laws.{read_is, read_apart}
 use Rattle.rows.specs.Parts.{refusal_of, ReadInto}
 
 -- ---- the parts of the arrays that are lent

@@ -20,7 +20,7 @@ use Rattle.refusals.specs.RuleLaws.{hold}
 use Rattle.refusals.specs.declared.Counted.{Counted}
 use Rattle.params.specs.declared.Parameters.{Parameters}
 use Rattle.shortened.specs.Begun.{Begun}
-use Rattle.shortened.specs.BegunLaws.{begun_as, begun_sent}
+use Rattle.shortened.proofs.BegunLaws.{begun_as, begun_sent}
 use Rattle.shortened.specs.Setting.{Setting, places}
 use Rattle.scheduler.specs.declared.Dash.{Dash}
 use Rattle.scheduler.specs.State.{dash_rules, offer_rules}

@@ -1,5 +1,6 @@
 pub mod Beginning
-pub mod Refusing
+pub mod CallLaws
 pub mod Handing
 pub mod Making
+pub mod Refusing
 pub mod Rounding

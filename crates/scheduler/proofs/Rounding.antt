@@ -19,7 +19,7 @@ use Rattle.params.specs.declared.Parameters.{Parameters}
 use Rattle.parity.specs.Word.{is_code_word}
 use Rattle.repair.specs.Decoding.{word_answer, word_after}
 use Rattle.shortened.specs.Begun.{Begun}
-use Rattle.shortened.specs.BegunLaws.{begun_as, begun_sent}
+use Rattle.shortened.proofs.BegunLaws.{begun_as, begun_sent}
 use Rattle.shortened.specs.Setting.{Setting, places}
 use Rattle.turns.specs.Turns.{others_before, turn_of, is_tried, next_turn}
 use Rattle.turns.specs.TurnLaws.{tried_same, next_same}

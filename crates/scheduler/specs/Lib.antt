@@ -4,5 +4,4 @@ pub mod RoundLaws
 pub mod Answers
 pub mod Parts
 pub mod StateLaws
-pub mod CallLaws
 pub mod Play

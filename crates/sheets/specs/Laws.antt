@@ -4,7 +4,7 @@ use Rattle.std.proofs.Common.{sym, ◌∙◌}
 use Rattle.std.proofs.Math.Bool.{true}
 use Rattle.refusals.specs.RuleLaws.{fault_past, hold}
 use Rattle.refusals.specs.Rules.{numbered}
-use Rattle.params.specs.Accepted.{accepted, code_numbered}
+use Rattle.params.proofs.Accepted.{accepted, code_numbered}
 use Rattle.params.specs.Code.{Accepted}
 use Rattle.sheets.specs.Sheet.{sheet_parameters, sheet_h, is_sheet}
 use Rattle.sheets.specs.Fault.{sheet_rules, sheet_fault}

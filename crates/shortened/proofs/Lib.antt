@@ -1,2 +1,6 @@
+pub mod BegunLaws
 pub mod Marking
+pub mod NothingHidden
+pub mod SettingLaws
+pub mod ShortMatrix
 pub mod Shortening

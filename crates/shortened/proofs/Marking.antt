@@ -12,7 +12,7 @@ use Rattle.messages.specs.CodeBasis.{MessageColumns}
 use Rattle.params.specs.declared.Parameters.{Parameters}
 use Rattle.parity.specs.Columns.{is_message_column}
 use Rattle.shortened.specs.Marks.{is_sent, sent_count, hidden_pass, hides_messages}
-use Rattle.shortened.specs.SettingLaws.{hidden_pass_lem}
+use Rattle.shortened.proofs.SettingLaws.{hidden_pass_lem}
 
 module _ (c : Parameters) (h cols hidden : List ℕ) where
   -- where every place is sent there is nothing to test

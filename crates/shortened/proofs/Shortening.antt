@@ -14,10 +14,10 @@ use Rattle.slices.specs.Lengths.{longest}
 use Rattle.params.specs.declared.Parameters.{Parameters}
 use Rattle.parity.specs.Selected.{OnColumns}
 use Rattle.columns.specs.Choice.{Choice, all_places, all_columns, choice_rules}
-use Rattle.columns.specs.ChoiceLaws.{choice_numbered, all_short}
+use Rattle.columns.proofs.ChoiceLaws.{choice_numbered, all_short}
 use Rattle.columns.specs.Listed.{Listed}
-use Rattle.columns.specs.ListedLaws.{found_due, listed_refuses, listed_none, listed_places, listed_accepted, listed_numbered, listed_columns}
-use Rattle.columns.specs.ListedLaws.{found_none, listed_passes}
+use Rattle.columns.proofs.ListedLaws.{found_due, listed_refuses, listed_none, listed_places, listed_accepted, listed_numbered, listed_columns}
+use Rattle.columns.proofs.ListedLaws.{found_none, listed_passes}
 use Rattle.shortened.specs.Begun.{Begun}
 use Rattle.shortened.specs.Marks.{sent_count, sent_of, mark_rules}
 use Rattle.shortened.specs.Setting.{shortened, columns_of, setting_rules}

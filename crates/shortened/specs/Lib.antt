@@ -4,8 +4,4 @@ pub mod Unhidden
 pub mod Fits
 pub mod Begun
 pub mod MarkLaws
-pub mod SettingLaws
 pub mod ShortCode
-pub mod BegunLaws
-pub mod ShortMatrix
-pub mod NothingHidden

@@ -22,7 +22,7 @@ use Rattle.algebra.specs.Sum.{sum}
 use Rattle.algebra.specs.SumLaws.{sum_cong}
 use Rattle.algebra.specs.TabulateLaws.{tabulate_cong}
 use Rattle.field.specs.Gf.{Width, gf}
-use Rattle.field.specs.GfLaws.{gf_laws}
+use Rattle.field.proofs.GfLaws.{gf_laws}
 use Rattle.params.specs.declared.Parameters.{Parameters}
 use Rattle.parity.specs.Columns.{is_sum, is_message_column, dimension, message_of}
 use Rattle.parity.specs.Encoding.{basis}

@@ -11,7 +11,7 @@ use Rattle.algebra.specs.AllLaws.{all_cong}
 use Rattle.algebra.specs.Xor.{◌⊕◌}
 use Rattle.algebra.specs.XorLaws.{xor, ⊕_eq}
 use Rattle.field.specs.Gf.{gf}
-use Rattle.field.specs.GfLaws.{gf_laws}
+use Rattle.field.proofs.GfLaws.{gf_laws}
 use Rattle.slices.specs.Lengths.{is_power}
 use Rattle.signature.specs.Existence.{inv_injective}
 use Rattle.signature.specs.Inverses.{Entries, Inverted}

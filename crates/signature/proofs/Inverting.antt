@@ -12,7 +12,7 @@ use Rattle.algebra.specs.Field.{Laws}
 use Rattle.algebra.specs.Product.{prod, Units, in_prod, factor_inverse, rest_inverse}
 use Rattle.algebra.specs.Filling.{filled, filled_start, filled_turn, length-filled}
 use Rattle.field.specs.Gf.{Width, gf}
-use Rattle.field.specs.GfLaws.{gf_laws}
+use Rattle.field.proofs.GfLaws.{gf_laws}
 use Rattle.slices.specs.Elements.{Elements}
 use Rattle.signature.specs.Tests.{inverse_at, no_zero}
 use Rattle.signature.specs.TestLaws.{no_zero_is}

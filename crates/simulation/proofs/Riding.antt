@@ -12,9 +12,9 @@ use Rattle.refusals.specs.Rules.{fault}
 use Rattle.params.specs.declared.Parameters.{Parameters}
 use Rattle.simulation.specs.declared.Verdict.{Verdict}
 use Rattle.simulation.specs.Steps.{Steps, step_count, rules_at}
-use Rattle.simulation.specs.StepLaws.{PassBelow, pass_suc, steps_pass, steps_stop}
+use Rattle.simulation.proofs.StepLaws.{PassBelow, pass_suc, steps_pass, steps_stop}
 use Rattle.simulation.specs.Ride.{verdict_at, counts_up_to, ride_counts}
-use Rattle.simulation.specs.RideLaws.{counts_start, counts_turn, counts_stop, counts_few}
+use Rattle.simulation.proofs.RideLaws.{counts_start, counts_turn, counts_stop, counts_few}
 use Rattle.simulation.specs.Answers.{longest_ride, counts_long}
 use Rattle.simulation.specs.Parts.{tallied, Countable, StepsRidden}
 

@@ -1,7 +1,5 @@
 pub mod Steps
-pub mod StepLaws
 pub mod Ride
-pub mod RideLaws
 pub mod Answers
 pub mod Parts
 pub mod Lent

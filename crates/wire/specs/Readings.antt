@@ -3,14 +3,14 @@ use Rattle.std.specs.Prelude.{◌≡◌, ℕ, ◌+◌, ◌*◌, ◌^◌, ◌<◌
 use Rattle.std.proofs.Common.{mod-eq_of_lt, arith}
 use Rattle.slices.specs.Lengths.{longest}
 use Rattle.params.specs.declared.Parameters.{Parameters}
-use Rattle.params.specs.Accepted.{n_short}
+use Rattle.params.proofs.Accepted.{n_short}
 use Rattle.shortened.specs.Setting.{Setting}
 use Rattle.gears.specs.declared.Row.{Row}
 use Rattle.gears.specs.Messages.{row_gear, row_lamp}
 use Rattle.gears.specs.Rows.{lamp_number}
 use Rattle.rows.specs.declared.Reading.TheVariants.{Read}
 use Rattle.rows.specs.Answers.{read_answer}
-use Rattle.rows.specs.Laws.{read_allowed, read_within}
+use Rattle.rows.proofs.Laws.{read_allowed, read_within}
 use Rattle.wire.specs.Wire.{reading_code}
 
 module _ (c : Parameters) (h : List ℕ) (s : Setting) (received repaired : List ℕ) (row : Row) (count : ℕ)

@@ -1,6 +1,6 @@
 -- `card_fault` meets its contract: the number by which a call on words of the code is refused where it is lent what it needs.
 use mathlib.Core.Path.{sym}
-use Rattle.shortened.specs.BegunLaws.{begun_due, begun_none}
+use Rattle.shortened.proofs.BegunLaws.{begun_due, begun_none}
 use Rattle.codes.proofs.card_fault.Goals as goal
 
 pub returns-in-Refused : goal.returns-in-Refused

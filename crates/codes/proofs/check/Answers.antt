@@ -7,8 +7,8 @@ use Rattle.algebra.specs.Tabulate.{tabulate}
 use Rattle.refusals.specs.RuleLaws.{refuse, given}
 use Rattle.refusals.specs.declared.Outcome.TheVariants.{Refused}
 use Rattle.signature.specs.Inverses.{added}
-use Rattle.params.specs.Accepted.{n_short}
-use Rattle.shortened.specs.BegunLaws.{begun_due, begun_none}
+use Rattle.params.proofs.Accepted.{n_short}
+use Rattle.shortened.proofs.BegunLaws.{begun_due, begun_none}
 use Rattle.codes.specs.Answers.{check_fault, check_answer, roots_after, support_after}
 use Rattle.params.proofs.Stored.{offset_fits}
 use Rattle.signature.proofs.Stored.{roots_are, support_is}

@@ -6,7 +6,7 @@ use Rattle.algebra.specs.Flags.{found_true, found_false}
 use Rattle.refusals.specs.RuleLaws.{fault_here, fault_past, fault_none}
 use Rattle.slices.specs.Lengths.{longest}
 use Rattle.columns.specs.Choice.{has_lengths, selection_rules}
-use Rattle.columns.specs.ChoiceLaws.{below_is}
+use Rattle.columns.proofs.ChoiceLaws.{below_is}
 use Rattle.columns.proofs.selection_fault.Goals as goal
 
 pub returns-then-not-long-count : goal.returns-then-not-long-count

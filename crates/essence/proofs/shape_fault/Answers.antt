@@ -6,7 +6,7 @@ use Rattle.algebra.specs.Flags.{found_false, found_true}
 use Rattle.refusals.specs.RuleLaws.{fault_here, fault_past, fault_none}
 use Rattle.field.specs.RangeLaws.{width_is}
 use Rattle.essence.specs.Answers.{shape_rules}
-use Rattle.essence.specs.ShapeLaws.{value_count_is}
+use Rattle.essence.proofs.ShapeLaws.{value_count_is}
 use Rattle.essence.proofs.shape_fault.Goals as goal
 
 pub returns-then-not-is_width : goal.returns-then-not-is_width

@@ -6,7 +6,7 @@ use lib.ListN.{length}
 use lib.Pow.{pow_pos}
 use Rattle.algebra.specs.Lists.{entry_of}
 use Rattle.algebra.specs.Xor.{◌⊕◌}
-use Rattle.essence.specs.ShapeLaws.{value_count_is}
+use Rattle.essence.proofs.ShapeLaws.{value_count_is}
 use Rattle.essence.proofs.Storing.{reached, storing_start, storing_length, storing_last, storing_turn, storing_end}
 use Rattle.essence.proofs.store_essence.Goals as goal
 

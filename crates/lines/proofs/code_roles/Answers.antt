@@ -1,7 +1,7 @@
 -- `code_roles` meets its contract: its columns are the whole code's.
 use mathlib.Core.Path.{refl, ap, ◌∙◌}
 use native.Mathlib.Omega.{arith}
-use Rattle.params.specs.Accepted.{n_short}
+use Rattle.params.proofs.Accepted.{n_short}
 use Rattle.parity.specs.Columns.{roles_of, dimension}
 use Rattle.parity.specs.Selected.{on_whole, as_long}
 use Rattle.lines.proofs.code_roles.Goals as goal

@@ -1,7 +1,7 @@
 -- `compute_lines` meets its contract: what it computes is the listing's.
 use mathlib.Core.Path.{◌∙◌}
 use native.Mathlib.Omega.{arith}
-use Rattle.params.specs.Accepted.{n_short}
+use Rattle.params.proofs.Accepted.{n_short}
 use Rattle.params.proofs.Stored.{offset_fits}
 use Rattle.parity.specs.ColumnLaws.{message_length-le}
 use Rattle.lines.proofs.Rows.{support_held, listing_written}

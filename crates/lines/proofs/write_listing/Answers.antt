@@ -1,6 +1,6 @@
 -- `write_listing` meets its contract.
 use mathlib.Core.Path.{sym}
-use Rattle.params.specs.Accepted.{n_short}
+use Rattle.params.proofs.Accepted.{n_short}
 use Rattle.lines.proofs.Rows.{n_taken}
 use Rattle.lines.proofs.write_listing.Goals as goal
 

@@ -1,6 +1,6 @@
 -- `code_basis` meets its contract.
 use native.Mathlib.Omega.{arith}
-use Rattle.params.specs.Accepted.{n_short, t_short}
+use Rattle.params.proofs.Accepted.{n_short, t_short}
 use Rattle.parity.specs.Parity.{reaches}
 use Rattle.messages.proofs.Meaning.{code_basis_is, rank-le}
 use Rattle.messages.proofs.code_basis.Goals as goal

@@ -6,7 +6,7 @@ use native.Mathlib.Omega.{arith}
 use lib.ListN.{replicate}
 use lib.Seq.{length-take-le}
 use Rattle.slices.specs.Lengths.{longest}
-use Rattle.params.specs.Accepted.{n_short}
+use Rattle.params.proofs.Accepted.{n_short}
 use Rattle.nearest.proofs.Decoding.{roots_short}
 use Rattle.nearest.proofs.candidate.Goals as goal
 

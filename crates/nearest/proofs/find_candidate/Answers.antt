@@ -3,7 +3,7 @@
 use mathlib.Core.Path.{refl, sym, subst}
 use Prim.Native.Nat.{ℕ}
 use native.Mathlib.Omega.{arith}
-use Rattle.params.specs.Accepted.{t_short}
+use Rattle.params.proofs.Accepted.{t_short}
 use Rattle.params.proofs.Stored.{offset_fits}
 use Rattle.basis.specs.Table.{Reaches}
 use Rattle.parity.specs.Parity.{reaches}

@@ -1,6 +1,6 @@
 -- `read_row` meets its contract: it begins at the whole code.
 use Rattle.shortened.specs.Begun.{both_long}
-use Rattle.shortened.specs.BegunLaws.{begun_sent}
+use Rattle.shortened.proofs.BegunLaws.{begun_sent}
 use Rattle.shortened.specs.Setting.{short_code}
 use Rattle.rows.proofs.read_row.Goals as goal
 

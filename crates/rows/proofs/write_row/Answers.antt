@@ -1,7 +1,7 @@
 -- `write_row` meets its contract: it begins at the whole code.
 use lib.Dec.{eqb}
 use lib.ListN.{length}
-use Rattle.shortened.specs.BegunLaws.{begun_sent}
+use Rattle.shortened.proofs.BegunLaws.{begun_sent}
 use Rattle.shortened.specs.Setting.{short_code}
 use Rattle.rows.proofs.write_row.Goals as goal
 

@@ -5,7 +5,7 @@ use lib.ListN.{set}
 use Rattle.algebra.specs.Parts.{with_part}
 use Rattle.refusals.specs.Rules.{Rule}
 use Rattle.refusals.specs.declared.Outcome.TheVariants.{Done, Refused}
-use Rattle.shortened.specs.BegunLaws.{begun_refuses, begun_accepted, begun_ends}
+use Rattle.shortened.proofs.BegunLaws.{begun_refuses, begun_accepted, begun_ends}
 use Rattle.shortened.specs.Setting.{short_code, places}
 use Rattle.scheduler.specs.State.{dash_rules, offer_rules}
 use Rattle.scheduler.specs.Answers.{offer_fault, offer_answer, offer_waiting, offer_words}

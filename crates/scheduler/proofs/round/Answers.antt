@@ -5,9 +5,9 @@ use Prim.Native.Nat.{ℕ}
 use native.Mathlib.Omega.{arith}
 use Rattle.refusals.specs.Rules.{Rule}
 use Rattle.refusals.specs.declared.Outcome.TheVariants.{Done, Refused}
-use Rattle.shortened.specs.BegunLaws.{begun_refuses, begun_places, begun_accepted, begun_columns, begun_long, begun_ends}
+use Rattle.shortened.proofs.BegunLaws.{begun_refuses, begun_places, begun_accepted, begun_columns, begun_long, begun_ends}
 use Rattle.shortened.specs.Setting.{short_code, places}
-use Rattle.shortened.specs.SettingLaws.{places_short}
+use Rattle.shortened.proofs.SettingLaws.{places_short}
 use Rattle.scheduler.specs.State.{state_of}
 use Rattle.scheduler.specs.Round.{round_waiting, round_next, round_answers, round_handed}
 use Rattle.scheduler.specs.Answers.{round_rules, round_fault, round_answer, waiting_after, next_after, answers_after, handed_after}

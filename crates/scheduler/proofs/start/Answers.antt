@@ -4,7 +4,7 @@ use mathlib.Core.List.{List, [], ◌∷◌}
 use lib.ListN.{replicate}
 use Rattle.refusals.specs.Rules.{Rule}
 use Rattle.refusals.specs.declared.Outcome.TheVariants.{Done, Refused}
-use Rattle.shortened.specs.BegunLaws.{begun_refuses, begun_accepted, begun_ends}
+use Rattle.shortened.proofs.BegunLaws.{begun_refuses, begun_accepted, begun_ends}
 use Rattle.scheduler.specs.State.{dash_rules}
 use Rattle.scheduler.specs.Answers.{start_lengths, start_fault, start_answer, start_waiting, start_next}
 use Rattle.scheduler.proofs.Beginning.{start_lent}

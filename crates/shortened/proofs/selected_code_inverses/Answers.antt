@@ -2,7 +2,7 @@
 use Prim.Native.Nat.{◌*◌}
 use lib.ListN.{length}
 use Rattle.columns.specs.Choice.{Choice.selection}
-use Rattle.columns.specs.ListedLaws.{listed_as}
+use Rattle.columns.proofs.ListedLaws.{listed_as}
 use Rattle.shortened.proofs.Shortening.{begun_listed}
 use borrow.Author.Rules.{rules}
 use Rattle.shortened.proofs.selected_code_inverses.Goals as goal

@@ -9,9 +9,9 @@ use lib.ListN.{length}
 use Rattle.algebra.specs.Flags.{both_hold}
 use Rattle.refusals.specs.Rules.{Rule, unless_refused}
 use Rattle.refusals.specs.declared.Outcome.TheVariants.{Done, Refused}
-use Rattle.shortened.specs.BegunLaws.{begun_as, begun_refuses, begun_places, begun_accepted, begun_columns, begun_long, begun_passes}
+use Rattle.shortened.proofs.BegunLaws.{begun_as, begun_refuses, begun_places, begun_accepted, begun_columns, begun_long, begun_passes}
 use Rattle.shortened.specs.Setting.{short_code, places}
-use Rattle.shortened.specs.SettingLaws.{places_short}
+use Rattle.shortened.proofs.SettingLaws.{places_short}
 use Rattle.simulation.specs.Steps.{steps_of}
 use Rattle.simulation.specs.Ride.{ride_counts}
 use Rattle.simulation.specs.Answers.{ride_lengths, marks_long, start_rules, ride_rules, ride_fault, ride_answer, start_fault, ride_after}

@@ -1,7 +1,7 @@
 -- `syndrome` meets its contract: it begins at the whole code.
 use lib.Dec.{eqb}
 use lib.ListN.{length}
-use Rattle.shortened.specs.BegunLaws.{begun_sent}
+use Rattle.shortened.proofs.BegunLaws.{begun_sent}
 use Rattle.shortened.specs.Setting.{short_code}
 use Rattle.words.proofs.syndrome.Goals as goal
 

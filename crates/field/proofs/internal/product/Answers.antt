@@ -5,7 +5,7 @@ use native.Mathlib.Omega.{arith}
 use Rattle.algebra.specs.Xor.{◌⊕◌}
 use Rattle.field.specs.Words.{words, word}
 use Rattle.field.specs.Ring.{bit_lt}
-use Rattle.field.specs.GfLaws.{gf_is_field}
+use Rattle.field.proofs.GfLaws.{gf_is_field}
 use Rattle.field.proofs.Shift.{element_fits, Gathering, gather_start, gather_turn, gather_end}
 use Rattle.field.proofs.internal.product.Goals as goal
 

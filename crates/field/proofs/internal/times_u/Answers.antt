@@ -5,9 +5,9 @@ use native.Mathlib.Omega.{arith}
 use lib.Bits.{bit_xor}
 use Rattle.algebra.specs.Xor.{◌⊕◌}
 use Rattle.field.specs.Words.{widest, word}
-use Rattle.field.specs.ProductByU.{shift_and_cut_back}
+use Rattle.field.proofs.ProductByU.{shift_and_cut_back}
 use Rattle.field.specs.Ring.{product_lt}
-use Rattle.field.specs.GfLaws.{gf_is_field}
+use Rattle.field.proofs.GfLaws.{gf_is_field}
 use Rattle.field.proofs.Shift.{element_fits, over_fits}
 use Rattle.field.proofs.internal.times_u.Goals as goal
 

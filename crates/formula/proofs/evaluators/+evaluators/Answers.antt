@@ -81,16 +81,16 @@ multiply_term-returns-in_default-clause-finds t c =
     let β = lending c.args.a.now c.args.b.now c.args.c.now c.args.d.now in
     λ from h. no_term {β = β} c.args.from c.after.ensures c.term-found.ensures c.requires.ready.width h c.requires.over_byte_value.0 c.in_default.is
 
-pub multiply_term-returns-then-byte_at-eq42-clause-finds : goal.multiply_term-returns-then-byte_at-eq42-clause-finds
-multiply_term-returns-then-byte_at-eq42-clause-finds t c =
+pub multiply_term-returns-then-times-clause-finds : goal.multiply_term-returns-then-times-clause-finds
+multiply_term-returns-then-times-clause-finds t c =
     let β = lending c.args.a.now c.args.b.now c.args.c.now c.args.d.now in
     let room = filled c.requires.ready.room c.term-found.auto.value in
     let multiplied = c.multiply.ensures.value_after ∙ ap (block_product (gf c.args.m) c.args.value.now) room.front in
     λ from h. times_read {β = β} c.args.from c.after.ensures c.term-found.ensures c.requires.ready.width h c.in-Read.is c.byte_at.ensures
-    c.if-byte_at-eq42.true multiplied
+    c.if-times.true multiplied
 
-pub multiply_term-returns-then-byte_at-eq42-clause-moves : goal.multiply_term-returns-then-byte_at-eq42-clause-moves
-multiply_term-returns-then-byte_at-eq42-clause-moves t c =
+pub multiply_term-returns-then-times-clause-moves : goal.multiply_term-returns-then-times-clause-moves
+multiply_term-returns-then-times-clause-moves t c =
     let β = lending c.args.a.now c.args.b.now c.args.c.now c.args.d.now in
     record { moves = factor_moves {β = β} c.args.from c.after.ensures c.term-found.ensures c.in-Read.is }
 
@@ -102,7 +102,7 @@ multiply_term-returns-clause-finds t c =
     let divided = c.divide-exists.ensures.value_after
     ∙ ap (λ (x : List ℕ). block_product (gf c.args.m) c.args.value.now (block_inverse (gf c.args.m) x)) room.front in
     λ from h. over_read {β = β} c.args.from c.after.ensures c.term-found.ensures c.requires.ready.width h c.in-Read.is c.byte_at.ensures
-    c.if-byte_at-eq42.false c.requires.over_byte_value.0 exists divided
+    c.if-times.false c.requires.over_byte_value.0 exists divided
 
 pub multiply_term-returns-clause-moves : goal.multiply_term-returns-clause-moves
 multiply_term-returns-clause-moves t c =

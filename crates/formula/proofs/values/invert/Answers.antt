@@ -11,7 +11,7 @@ use Rattle.algebra.specs.SumLaws.{in_sum}
 use Rattle.algebra.specs.Tabulate.{tabulate}
 use Rattle.algebra.specs.Filling.{filling_start, filling_turn, filling_old, filling_end}
 use Rattle.field.specs.Gf.{gf}
-use Rattle.field.specs.GfLaws.{gf_laws}
+use Rattle.field.proofs.GfLaws.{gf_laws}
 use Rattle.dyadic.specs.Block.{total, quotient, block_inverse}
 use Rattle.dyadic.specs.Invertible.{is_invertible}
 use Rattle.formula.proofs.values.invert.Invariants.{multiples}

@@ -4,7 +4,7 @@ use Prim.Native.Nat.{ℕ}
 use borrow.Author.Tests.{eqb-true}
 use Rattle.algebra.specs.Flags.{both_true}
 use Rattle.refusals.specs.Rules.{Rule}
-use Rattle.shortened.specs.BegunLaws.{begun_refuses, begun_places, begun_accepted, begun_columns, begun_long, begun_passes}
+use Rattle.shortened.proofs.BegunLaws.{begun_refuses, begun_places, begun_accepted, begun_columns, begun_long, begun_passes}
 use Rattle.nearest.specs.Repair.{repaired_of}
 use Rattle.repair.specs.declared.Recovery.TheVariants.{Repaired, Refused}
 use Rattle.repair.specs.Answers.{word_rules, turned_count, repair_fault, repair_answer, repair_after}

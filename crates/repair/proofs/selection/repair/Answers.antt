@@ -1,6 +1,6 @@
 -- `selection::repair` meets its contract: it begins at the selection.
 use Rattle.shortened.specs.Begun.{both_long}
-use Rattle.shortened.specs.BegunLaws.{begun_sent}
+use Rattle.shortened.proofs.BegunLaws.{begun_sent}
 use Rattle.shortened.specs.Setting.{short_selection}
 use Rattle.repair.proofs.selection.repair.Goals as goal
 

@@ -4,7 +4,7 @@ use Prim.Native.Nat.{ℕ}
 use borrow.Author.Tests.{eqb-true}
 use Rattle.algebra.specs.Flags.{both_true}
 use Rattle.refusals.specs.Rules.{Rule}
-use Rattle.shortened.specs.BegunLaws.{begun_refuses, begun_places, begun_accepted, begun_columns, begun_long, begun_passes}
+use Rattle.shortened.proofs.BegunLaws.{begun_refuses, begun_places, begun_accepted, begun_columns, begun_long, begun_passes}
 use Rattle.nearest.specs.Repair.{repaired_of}
 use Rattle.rows.specs.declared.Reading.TheVariants.{Refused}
 use Rattle.rows.specs.Answers.{read_rules, row_read, reading_answer, reading_after, read_fault, read_answer, read_after}

@@ -1,7 +1,7 @@
 -- `begun::write_row` meets its contract: what the beginning refused is refused, and else the columns that it numbered are those of the setting.
 use mathlib.Core.Path.{◌∙◌}
 use borrow.Author.Tests.{eqb-true}
-use Rattle.shortened.specs.BegunLaws.{begun_refuses_both, begun_places, begun_accepted, begun_columns, begun_long, begun_ends}
+use Rattle.shortened.proofs.BegunLaws.{begun_refuses_both, begun_places, begun_accepted, begun_columns, begun_long, begun_ends}
 use Rattle.rows.specs.Answers.{write_rules, row_word, write_fault, write_answer, write_after}
 use Rattle.rows.proofs.begun.write_row.Goals as goal
 

@@ -1,7 +1,7 @@
 -- `selection::write_row` meets its contract: it begins at the selection.
 use lib.Dec.{eqb}
 use lib.ListN.{length}
-use Rattle.shortened.specs.BegunLaws.{begun_sent}
+use Rattle.shortened.proofs.BegunLaws.{begun_sent}
 use Rattle.shortened.specs.Setting.{short_selection}
 use Rattle.rows.proofs.selection.write_row.Goals as goal
 

@@ -4,7 +4,7 @@ use lib.ListN.{length}
 use borrow.Author.Tests.{eqb-true}
 use Rattle.slices.specs.Bits.{all_bits}
 use Rattle.parity.specs.Columns.{dimension, encoding_of}
-use Rattle.shortened.specs.BegunLaws.{begun_refuses_both, begun_places, begun_accepted, begun_columns, begun_long, begun_ends}
+use Rattle.shortened.proofs.BegunLaws.{begun_refuses_both, begun_places, begun_accepted, begun_columns, begun_long, begun_ends}
 use Rattle.messages.specs.MessageRules.{message_rules}
 use Rattle.words.specs.Answers.{encode_fault, encode_answer, encode_after}
 use Rattle.words.proofs.begun.encode.Goals as goal

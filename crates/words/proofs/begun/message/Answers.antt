@@ -4,7 +4,7 @@ use lib.ListN.{length}
 use borrow.Author.Tests.{eqb-true}
 use Rattle.slices.specs.Bits.{all_bits}
 use Rattle.parity.specs.Columns.{dimension, message_of}
-use Rattle.shortened.specs.BegunLaws.{begun_refuses_both, begun_places, begun_accepted, begun_columns, begun_long, begun_ends}
+use Rattle.shortened.proofs.BegunLaws.{begun_refuses_both, begun_places, begun_accepted, begun_columns, begun_long, begun_ends}
 use Rattle.messages.specs.MessageRules.{message_rules}
 use Rattle.words.specs.Answers.{message_fault, message_answer, message_after}
 use Rattle.words.proofs.begun.message.Goals as goal

@@ -7,7 +7,7 @@ use Rattle.algebra.specs.Flags.{both_true}
 use Rattle.refusals.specs.declared.Counted.TheVariants.{Count, Refused}
 use Rattle.refusals.specs.Rules.{Rule}
 use Rattle.parity.specs.Columns.{roles_of}
-use Rattle.columns.specs.ListedLaws.{listed_refuses, listed_places, listed_accepted, listed_columns, listed_long, listed_passes}
+use Rattle.columns.proofs.ListedLaws.{listed_refuses, listed_places, listed_accepted, listed_columns, listed_long, listed_passes}
 use Rattle.shortened.specs.Marks.{sent_dimension, mark_rules}
 use Rattle.words.specs.Answers.{roles_rules, roles_fault, roles_answer, roles_after}
 use Rattle.words.proofs.begun.roles.Goals as goal

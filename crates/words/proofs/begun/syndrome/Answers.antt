@@ -2,7 +2,7 @@
 use mathlib.Core.Path.{◌∙◌}
 use borrow.Author.Tests.{eqb-true}
 use Rattle.parity.specs.Word.{syndrome_of}
-use Rattle.shortened.specs.BegunLaws.{begun_refuses_both, begun_places, begun_accepted, begun_columns, begun_long, begun_ends}
+use Rattle.shortened.proofs.BegunLaws.{begun_refuses_both, begun_places, begun_accepted, begun_columns, begun_long, begun_ends}
 use Rattle.words.specs.Answers.{bit_rules, syndrome_fault, syndrome_answer, syndrome_after}
 use Rattle.words.proofs.begun.syndrome.Goals as goal
 

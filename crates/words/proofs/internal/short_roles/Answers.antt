@@ -14,7 +14,7 @@ use Rattle.parity.specs.Columns.{dimension}
 use Rattle.parity.specs.Selected.{OnColumns, columns_short}
 use Rattle.shortened.specs.Marks.{sent_count, sent_dimension, mark_rules}
 use Rattle.shortened.specs.MarkLaws.{sent_le}
-use Rattle.shortened.specs.SettingLaws.{marked}
+use Rattle.shortened.proofs.SettingLaws.{marked}
 use Rattle.shortened.specs.ShortCode.{dimension-hidden}
 use Rattle.words.proofs.internal.short_roles.Goals as goal
 

@@ -2,7 +2,7 @@
 use mathlib.Core.Path.{ap₂}
 use mathlib.Core.Bool.{Bool, ◌&&◌}
 use Rattle.columns.specs.Choice.{Choice.selection}
-use Rattle.columns.specs.ListedLaws.{listed_as}
+use Rattle.columns.proofs.ListedLaws.{listed_as}
 use Rattle.words.proofs.selection.roles.Goals as goal
 
 pub roles-requires : goal.roles-requires

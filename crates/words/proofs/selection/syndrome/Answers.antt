@@ -1,7 +1,7 @@
 -- `selection::syndrome` meets its contract: it begins at the selection.
 use lib.Dec.{eqb}
 use lib.ListN.{length}
-use Rattle.shortened.specs.BegunLaws.{begun_sent}
+use Rattle.shortened.proofs.BegunLaws.{begun_sent}
 use Rattle.shortened.specs.Setting.{short_selection}
 use Rattle.words.proofs.selection.syndrome.Goals as goal
 

@@ -3,7 +3,7 @@ use Rattle.std.specs.Prelude.{◌≡◌, Bool, true, List, ◌++◌, ℕ}
 use Rattle.refusals.specs.Rules.{Rule, fault}
 use Rattle.refusals.specs.RuleLaws.{fault_rest}
 use Rattle.params.specs.declared.Parameters.{Parameters}
-use Rattle.params.specs.Accepted.{code_numbered, accepts}
+use Rattle.params.proofs.Accepted.{code_numbered, accepts}
 use Rattle.params.specs.Code.{Accepted, code_rules}
 
 -- an accepted code, with buffers of their lengths, leaves a call to its own rules

@@ -13,7 +13,7 @@ use Rattle.dyadic.specs.Matrix.{Matrix, Same, matrix_sum, matrix_product, identi
 use Rattle.dyadic.specs.Convolution.{upper, convolution_cong, convolution_lower, convolution-upper, convolution_comm, convolution_mixed}
 use Rattle.dyadic.specs.Entries.{length_sum, length_inverse, entry_sum, product_sized, entry_product}
 use Rattle.dyadic.specs.Entries.{entry_front, entry_back, sum_tabulate, sum_products}
-use Rattle.dyadic.specs.Inverse.{identity_dyadic, identity_symmetric, identity_row, inverse_convolution, combined_rows}
+use Rattle.dyadic.proofs.Inverse.{identity_dyadic, identity_symmetric, identity_row, inverse_convolution, combined_rows}
 
 module _ {A : Type 0} (K : Ops A) (F : Laws K) (e : ℕ) where
   infixl 70 ◌·◌

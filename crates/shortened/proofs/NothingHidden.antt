@@ -16,12 +16,12 @@ use Rattle.slices.specs.BitLaws.{bits_are}
 use Rattle.params.specs.declared.Parameters.{Parameters}
 use Rattle.parity.specs.Columns.{is_message_column, dimension}
 use Rattle.columns.specs.Choice.{Choice, all_places, all_columns, choice_rules}
-use Rattle.columns.specs.ChoiceLaws.{choice_numbered, length_all}
+use Rattle.columns.proofs.ChoiceLaws.{choice_numbered, length_all}
 use Rattle.columns.specs.Fits.{ChoiceFits}
 use Rattle.shortened.specs.Fits.{Hides, Fits}
 use Rattle.shortened.specs.Marks.{is_sent, sent_count, sent_of, hides_messages, sent_dimension, mark_rules}
 use Rattle.shortened.specs.Setting.{places, columns_of, setting_rules}
-use Rattle.shortened.specs.SettingLaws.{hidden_pass_lem}
+use Rattle.shortened.proofs.SettingLaws.{hidden_pass_lem}
 use Rattle.shortened.specs.Unhidden.{unhidden}
 
 -- every place is chosen

@@ -5,7 +5,7 @@ use Rattle.std.proofs.Math.Path.{sym, ap}
 use Rattle.std.proofs.Common.{◌∙◌, mod-eq_of_lt, div-lt_iff_lt-mul, arith, pow_pos}
 use Rattle.algebra.specs.Xor.{◌⊕◌}
 use Rattle.field.specs.Gf.{Width}
-use Rattle.field.specs.GfLaws.{gf_is_field}
+use Rattle.field.proofs.GfLaws.{gf_is_field}
 use Rattle.field.specs.Horner.{times_u}
 use Rattle.field.specs.Product.{cut_back, product}
 use Rattle.field.specs.Ring.{product_u}

@@ -16,11 +16,11 @@ use Rattle.params.specs.declared.Parameters.{Parameters}
 use Rattle.params.specs.Code.{Accepted}
 use Rattle.parity.specs.Selected.{Selected}
 use Rattle.parity.specs.Word.{syndrome_at}
-use Rattle.nearest.specs.Errors.{F, roots}
+use Rattle.nearest.proofs.Errors.{F, roots}
 use Rattle.nearest.specs.Exists.{pass_exists}
-use Rattle.nearest.specs.Found.{near_is_found}
+use Rattle.nearest.proofs.Found.{near_is_found}
 use Rattle.nearest.specs.Repair.{distance, is_repairable, repaired_of}
-use Rattle.nearest.specs.Search.{repaired_bits, near_is, near, repairable, repaired_near}
+use Rattle.nearest.proofs.Search.{repaired_bits, near_is, near, repairable, repaired_near}
 use Rattle.nearest.specs.CodeWord.{CodeWord}
 
 module _ {c : Parameters} {h cols : List ℕ} (A : Accepted c h) (S : Selected c.n cols) {r : List ℕ} (received : IsBits (length cols) r) where

@@ -16,7 +16,7 @@ use Rattle.algebra.specs.SumLaws.{sum_cong, sum-add, sum_single, in_sum}
 use Rattle.algebra.specs.Xor.{◌⊕◌}
 use Rattle.algebra.specs.XorLaws.{⊕_self, ⊕-div}
 use Rattle.field.specs.Gf.{Width, gf}
-use Rattle.field.specs.GfLaws.{gf_laws}
+use Rattle.field.proofs.GfLaws.{gf_laws}
 use Rattle.slices.specs.Elements.{Elements}
 use Rattle.essence.specs.Choices.{choice_sum, vanishes, dependent, Independent, Dependent}
 

@@ -12,9 +12,9 @@ use Rattle.formula.specs.Reading.{longest_text, deepest, SumWithin, ProductWithi
 use Rattle.formula.specs.Parser.{Token, Name, Plus, Times, Over, Mark, Open, Close, Other, token, chosen}
 use Rattle.formula.specs.Parser.{Sums, first, after, Products, multiplied, divided, Front, with_term, with_product, whole, start}
 use Rattle.formula.specs.Parser.{State, operand, operator, failed, step, ended, run}
-use Rattle.formula.specs.Passing.{whole_passes}
-use Rattle.formula.specs.Tokens.{IsByte, token_is}
-use Rattle.formula.specs.SingleReading.{formula_injective}
+use Rattle.formula.proofs.Passing.{whole_passes}
+use Rattle.formula.proofs.Tokens.{IsByte, token_is}
+use Rattle.formula.proofs.SingleReading.{formula_injective}
 
 none≢formula : (x : Sum) → ¬ (none ≡ formula x)
 none≢formula x e =

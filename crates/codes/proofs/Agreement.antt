@@ -9,10 +9,10 @@ use Rattle.codes.specs.declared.Sameness.TheVariants.{Same, Different, Refused}
 use Rattle.params.specs.Code.{Accepted}
 use Rattle.shortened.specs.Fits.{Fits}
 use Rattle.shortened.specs.Setting.{short_code}
-use Rattle.shortened.specs.SettingLaws.{setting_accepts}
+use Rattle.shortened.proofs.SettingLaws.{setting_accepts}
 use Rattle.codes.specs.Agree.{Agree}
 use Rattle.codes.specs.Same.{same_code}
-use Rattle.codes.specs.SameLaws.{same_code_is}
+use Rattle.codes.proofs.SameLaws.{same_code_is}
 use Rattle.codes.specs.Answers.{lowest, compared, same_fault, same_answer}
 
 compared_same : (b : Bool) → (compared b ≡ Same) ↔ (b ≡ true)

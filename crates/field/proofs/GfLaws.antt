@@ -9,7 +9,7 @@ use Rattle.field.specs.Product.{product, inverse}
 use Rattle.field.specs.Ring.{Degree, product_lt, product_comm, product_assoc, product-⊕, product-one}
 use Rattle.field.specs.Inverse.{IsField, product-inverse, inverse-lt, inverse-zero}
 use Rattle.field.specs.Words.{word}
-use Rattle.field.specs.Test.{word_is_field}
+use Rattle.field.proofs.Test.{word_is_field}
 use Rattle.field.specs.Gf.{Width, gf}
 
 pub gf_is_field : (m : ℕ) → Width m → IsField m (word m)

@@ -5,7 +5,7 @@ use Rattle.formula.specs.Letters.{Letter, Lent}
 use Rattle.formula.specs.Grammar.{Sum, product, ◌plus◌, Product, term, ◌times◌, ◌over◌, Term, letter, bracket, inverse, sum_text}
 use Rattle.formula.specs.Reading.{SumWithin, ProductWithin, TermWithin, Reads, TextReading, formula, none, IsReading}
 use Rattle.formula.specs.Parser.{operand, run, start}
-use Rattle.formula.specs.Passing.{whole_passes}
+use Rattle.formula.proofs.Passing.{whole_passes}
 
 -- ---- with all blocks lent, a formula is within the limit of as many brackets as it has pairs
 

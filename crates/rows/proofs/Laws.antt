@@ -24,11 +24,11 @@ use Rattle.parity.specs.Encoding.{encoding_carries, encoding_only}
 use Rattle.parity.specs.Selected.{Selected}
 use Rattle.shortened.specs.Fits.{Fits}
 use Rattle.shortened.specs.Setting.{Setting, places, columns_of, setting_rules}
-use Rattle.shortened.specs.SettingLaws.{setting_accepted, setting_leaves, fits_selected, length_columns}
+use Rattle.shortened.proofs.SettingLaws.{setting_accepted, setting_leaves, fits_selected, length_columns}
 use Rattle.nearest.specs.CodeWord.{CodeWord}
-use Rattle.nearest.specs.Demand.{near_unique, repaired_code_word, repaired_within}
+use Rattle.nearest.proofs.Demand.{near_unique, repaired_code_word, repaired_within}
 use Rattle.nearest.specs.Repair.{distance, is_repairable, repaired_of}
-use Rattle.nearest.specs.Search.{distance_self, near as Near-word, repairable as near_repairable}
+use Rattle.nearest.proofs.Search.{distance_self, near as Near-word, repairable as near_repairable}
 use Rattle.repair.specs.Answers.{word_rules, turned_count}
 use Rattle.gears.specs.declared.Row.{Row}
 use Rattle.gears.specs.Rows.{is_row, row_bits, row_message, gear_in, lamp_in, further_zero, is_row_message, lamp_number, row_of}

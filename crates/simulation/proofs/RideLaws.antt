@@ -15,7 +15,7 @@ use Rattle.params.specs.declared.Parameters.{Parameters}
 use Rattle.simulation.specs.declared.Verdict.{Verdict}
 use Rattle.simulation.specs.declared.Verdict.TheVariants.{Right, Held, Wrong}
 use Rattle.simulation.specs.Steps.{Steps, rules_at, is_made}
-use Rattle.simulation.specs.StepLaws.{PassBelow, made, not_made}
+use Rattle.simulation.proofs.StepLaws.{PassBelow, made, not_made}
 use Rattle.simulation.specs.Ride.{is_right, is_held, is_wrong, verdict_at, verdict_count, counts_up_to}
 use Rattle.simulation.specs.Parts.{tallied}
 

@@ -20,16 +20,13 @@ use Rattle.params.specs.Code.{Accepted}
 use Rattle.signature.specs.Signature.{support_at}
 use Rattle.parity.specs.Selected.{Selected}
 use Rattle.parity.specs.Word.{syndrome_at, is_code_word}
-use Rattle.nearest.specs.Errors.{z, L, error_place, F, in_support, apart, same_place, explains}
+use Rattle.nearest.proofs.Errors.{z, L, error_place, F, in_support, apart, same_place, explains}
+use Rattle.nearest.specs.Decoding.{is_error}
 use Rattle.nearest.specs.Places.{place_is, place_of}
 use Rattle.nearest.specs.Repair.{differs, distance, is_near, is_repairable, repaired_of}
-use Rattle.nearest.specs.Search.{repaired_bits, near_is, near, repairable, repaired_near}
+use Rattle.nearest.proofs.Search.{repaired_bits, near_is, near, repairable, repaired_near}
 use Rattle.nearest.specs.Turned.{turned}
-use Rattle.nearest.specs.TurnedLaws.{length-turned, turned_bits, turned-distance, turned_is}
-
--- the support of place j is a root of the pair
-unfoldable pub is_error : Parameters → List ℕ → List ℕ → Halves ℕ → ℕ → Bool
-is_error c h cols pair j = eqb (value (gf c.m) pair (support_at (gf c.m) c.omega (entry_of h) (entry_of cols j))) 0
+use Rattle.nearest.proofs.TurnedLaws.{length-turned, turned_bits, turned-distance, turned_is}
 
 module _ {c : Parameters} {h cols : List ℕ} (A : Accepted c h) (S : Selected c.n cols) {r : List ℕ} (br : IsBits (length cols) r)
     {pair rest : Halves ℕ} {d f : ℕ} (I : Invariant (gf c.m) (z c h) (syndrome_at c h cols r) c.t pair d rest f) (least : d ≤ f) where

@@ -18,10 +18,10 @@ use Rattle.algebra.specs.SumLaws.{sum_cong, sum-add}
 use Rattle.algebra.specs.Xor.{◌⊕◌}
 use Rattle.algebra.specs.XorLaws.{⊕_self, ⊕-zero, zero-⊕}
 use Rattle.field.specs.Gf.{gf}
-use Rattle.field.specs.GfLaws.{gf_laws}
+use Rattle.field.proofs.GfLaws.{gf_laws}
 use Rattle.slices.specs.Bits.{IsBits}
 use Rattle.params.specs.declared.Parameters.{Parameters}
-use Rattle.params.specs.Accepted.{accepted_pair}
+use Rattle.params.proofs.Accepted.{accepted_pair}
 use Rattle.params.specs.Code.{Accepted}
 use Rattle.signature.specs.Signature.{root_at, support_at}
 use Rattle.parity.specs.Selected.{Selected}

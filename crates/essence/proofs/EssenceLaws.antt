@@ -18,15 +18,15 @@ use Rattle.algebra.specs.TabulateLaws.{length-tabulate, get_d_tabulate, tabulate
 use Rattle.algebra.specs.Xor.{◌⊕◌}
 use Rattle.algebra.specs.XorLaws.{xor, ⊕-lt}
 use Rattle.field.specs.Gf.{Width, gf}
-use Rattle.field.specs.GfLaws.{gf_laws}
+use Rattle.field.proofs.GfLaws.{gf_laws}
 use Rattle.slices.specs.Elements.{Elements}
 use Rattle.signature.specs.Existence.{inv-inv, inv_injective}
 use Rattle.signature.specs.Signature.{Conditions}
 use Rattle.signature.specs.Tests.{inverse_at}
 use Rattle.essence.specs.Affine.{affine_agree}
 use Rattle.essence.specs.Choices.{Independent}
-use Rattle.essence.specs.ChosenLaws.{Values, chosen_in, chosen_first, chosen_power, chosen_affine}
-use Rattle.essence.specs.ChosenLaws.{chosen_nonzero, chosen_distinct, independent_by}
+use Rattle.essence.proofs.ChosenLaws.{Values, chosen_in, chosen_first, chosen_power, chosen_affine}
+use Rattle.essence.proofs.ChosenLaws.{chosen_nonzero, chosen_distinct, independent_by}
 use Rattle.essence.specs.Essence.{essence_from, essence_of, chosen_at, signature_of}
 
 -- ---- from an independent essence to its signature

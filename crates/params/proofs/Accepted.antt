@@ -13,7 +13,7 @@ use Rattle.algebra.specs.XorLaws.{⊕-lt}
 use Rattle.refusals.specs.Rules.{fault, numbered}
 use Rattle.refusals.specs.RuleLaws.{fault_here, fault_past, fault_none, hold}
 use Rattle.field.specs.Gf.{gf}
-use Rattle.field.specs.GfLaws.{gf_laws}
+use Rattle.field.proofs.GfLaws.{gf_laws}
 use Rattle.field.specs.RangeLaws.{width, width_is, element, element_is}
 use Rattle.slices.specs.ElementLaws.{elements_are}
 use Rattle.slices.specs.Lengths.{longest, is_power}

@@ -19,7 +19,7 @@ use Rattle.params.specs.declared.Parameters.{Parameters}
 use Rattle.params.specs.Code.{Accepted}
 use Rattle.shortened.specs.Fits.{Fits}
 use Rattle.shortened.specs.Setting.{Setting, places, columns_of, setting_rules}
-use Rattle.shortened.specs.SettingLaws.{setting_accepted, setting_leaves, length_columns}
+use Rattle.shortened.proofs.SettingLaws.{setting_accepted, setting_leaves, length_columns}
 use Rattle.repair.specs.Decoding.{word_answer, word_after}
 use Rattle.wire.specs.Wire.{recovery_code}
 use Rattle.scheduler.specs.declared.Dash.{Dash}

@@ -10,8 +10,8 @@ use Rattle.slices.specs.ElementLaws.{elements_are}
 use Rattle.slices.specs.Lengths.{longest_log}
 use Rattle.signature.specs.Signature.{Conditions}
 use Rattle.essence.specs.Answers.{is_value_count, shape_rules}
-use Rattle.essence.specs.ChosenLaws.{Values}
-use Rattle.essence.specs.EssenceLaws.{Signature}
+use Rattle.essence.proofs.ChosenLaws.{Values}
+use Rattle.essence.proofs.EssenceLaws.{Signature}
 use Rattle.essence.specs.Shape.{Shape}
 
 pub value_count_is : (k : ℕ) → is_value_count k ≡ true → (2 ≤ k) × (k ≤ suc longest_log)

@@ -15,7 +15,7 @@ use Rattle.slices.specs.Elements.{Elements}
 use Rattle.signature.specs.TestLaws.{Affine}
 use Rattle.essence.specs.Affine.{top_bit}
 use Rattle.essence.specs.Choices.{choice_sum, Independent}
-use Rattle.essence.specs.ChoiceLaws.{choice_in, choice_⊕, choice_empty, choice_single}
+use Rattle.essence.proofs.ChoiceLaws.{choice_in, choice_⊕, choice_empty, choice_single}
 use Rattle.essence.specs.Essence.{chosen_at}
 
 -- e + 1 values

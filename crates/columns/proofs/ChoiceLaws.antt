@@ -13,7 +13,7 @@ use Rattle.refusals.specs.Rules.{Rule, fault, numbered}
 use Rattle.refusals.specs.RuleLaws.{fault_here, fault_none, fault_first, fault_rest, first_holds, hold, numbered_both}
 use Rattle.slices.specs.Lengths.{longest}
 use Rattle.params.specs.declared.Parameters.{Parameters}
-use Rattle.params.specs.Accepted.{code_numbered, accepted, accepts, lengths_fault}
+use Rattle.params.proofs.Accepted.{code_numbered, accepted, accepts, lengths_fault}
 use Rattle.params.specs.Code.{Accepted, code_rules}
 use Rattle.parity.specs.Selected.{Selected, OnColumns, tabulated_selected, columns_short, length_whole, whole_selected}
 use Rattle.columns.specs.Fits.{Below, Chosen, ChoiceFits}

@@ -4,14 +4,14 @@ use Rattle.std.proofs.Math.Bool.{Bool}
 use Rattle.refusals.specs.Rules.{fault}
 use Rattle.refusals.specs.RuleLaws.{fault_alike}
 use Rattle.params.specs.declared.Parameters.{Parameters}
-use Rattle.params.specs.Accepted.{code_numbered, accepted_fault, offset_accepted}
+use Rattle.params.proofs.Accepted.{code_numbered, accepted_fault, offset_accepted}
 use Rattle.params.specs.Code.{Accepted, code_rules, with_offset}
 use Rattle.parity.specs.SameMatrix.{SameMatrix}
 use Rattle.parity.specs.SameMatrixLaws.{offset_matrix}
 use Rattle.columns.specs.Fits.{ChoiceFits}
 use Rattle.columns.specs.Choice.{Choice, Choice.whole_code, Choice.selection, all_places, all_columns}
 use Rattle.columns.specs.Choice.{has_lengths, selection_rules, choice_rules}
-use Rattle.columns.specs.ChoiceLaws.{all_on_columns}
+use Rattle.columns.proofs.ChoiceLaws.{all_on_columns}
 
 module _ {c : Parameters} {h : List ℕ} (A : Accepted c h) (ω : ℕ) (l : ω < 2 ^ c.m) where
   abbrev c' : Parameters

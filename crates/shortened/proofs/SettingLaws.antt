@@ -12,7 +12,7 @@ use Rattle.params.specs.Code.{Accepted}
 use Rattle.parity.specs.Columns.{is_message_column}
 use Rattle.parity.specs.Selected.{Selected, OnColumns, columns_short}
 use Rattle.columns.specs.Choice.{all_places, all_columns, choice_rules}
-use Rattle.columns.specs.ChoiceLaws.{choice_numbered, choice_accepted, choice_accepts, choice_fault, length_all, all_distinct}
+use Rattle.columns.proofs.ChoiceLaws.{choice_numbered, choice_accepted, choice_accepts, choice_fault, length_all, all_distinct}
 use Rattle.shortened.specs.Fits.{Hides, Fits}
 use Rattle.shortened.specs.Marks.{is_sent, hidden_pass, hides_messages, mark_rules}
 use Rattle.shortened.specs.MarkLaws.{length_sent, sent_selected}

@@ -11,7 +11,7 @@ use Rattle.params.specs.declared.Parameters.{Parameters}
 use Rattle.params.specs.Code.{Accepted}
 use Rattle.parity.specs.Selected.{OnColumns}
 use Rattle.columns.specs.Choice.{Choice, all_places, all_columns, choice_rules}
-use Rattle.columns.specs.ChoiceLaws.{choice_numbered, choice_accepted, all_on_columns, length_all}
+use Rattle.columns.proofs.ChoiceLaws.{choice_numbered, choice_accepted, all_on_columns, length_all}
 use Rattle.columns.specs.Fits.{ChoiceFits}
 use Rattle.columns.specs.Listed.{Listed}
 

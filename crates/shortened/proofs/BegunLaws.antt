@@ -9,11 +9,11 @@ use Rattle.refusals.specs.Rules.{Rule, fault, unless_refused}
 use Rattle.params.specs.declared.Parameters.{Parameters}
 use Rattle.params.specs.Code.{Accepted}
 use Rattle.parity.specs.Selected.{OnColumns}
-use Rattle.columns.specs.ListedLaws.{found_due, found_none}
+use Rattle.columns.proofs.ListedLaws.{found_due, found_none}
 use Rattle.shortened.specs.Begun.{Begun}
 use Rattle.shortened.specs.Fits.{Fits}
 use Rattle.shortened.specs.Setting.{Setting, places, columns_of, setting_rules}
-use Rattle.shortened.specs.SettingLaws.{setting_numbered, setting_accepted, fits_columns, length_columns}
+use Rattle.shortened.proofs.SettingLaws.{setting_numbered, setting_accepted, fits_columns, length_columns}
 
 module _ {c : Parameters} {h : List ℕ} {s : Setting} {others words : Bool} {columns : List ℕ} {found : Counted}
     (B : Begun c h s others words columns found) where

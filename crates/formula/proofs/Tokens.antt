@@ -8,7 +8,7 @@ use Rattle.formula.specs.Grammar.{Term, letter}
 use Rattle.formula.specs.Reading.{none}
 use Rattle.formula.specs.Parser.{Token, Name, Plus, Times, Over, Mark, Open, Close, Other, byte_of, chosen, among, tokens, token}
 use Rattle.formula.specs.Parser.{Front, State, operand, operator, failed, step, ended, run}
-use Rattle.formula.specs.Passing.{failed-none}
+use Rattle.formula.proofs.Passing.{failed-none}
 use Rattle.formula.specs.Evaluated.{sums, Ends}
 
 -- the byte that a token stands for
