@@ -86,7 +86,7 @@ multiply_term-returns-then-times-clause-finds t c =
     let β = lending c.args.a.now c.args.b.now c.args.c.now c.args.d.now in
     let room = filled c.requires.ready.room c.term-found.auto.value in
     let multiplied = c.multiply.ensures.value_after ∙ ap (block_product (gf c.args.m) c.args.value.now) room.front in
-    λ from h. times_read {β = β} c.args.from c.after.ensures c.term-found.ensures c.requires.ready.width h c.in-Read.is c.byte_at.ensures
+    λ from h. times_read {β = β} c.args.from c.after.ensures c.term-found.ensures c.requires.ready.width h c.in-Read.is c.byte_at-times.ensures
     c.if-times.true multiplied
 
 pub multiply_term-returns-then-times-clause-moves : goal.multiply_term-returns-then-times-clause-moves
@@ -101,7 +101,7 @@ multiply_term-returns-clause-finds t c =
     let exists = c.divide-exists.ensures.value ∙ ap (is_invertible c.args.m) room.front in
     let divided = c.divide-exists.ensures.value_after
     ∙ ap (λ (x : List ℕ). block_product (gf c.args.m) c.args.value.now (block_inverse (gf c.args.m) x)) room.front in
-    λ from h. over_read {β = β} c.args.from c.after.ensures c.term-found.ensures c.requires.ready.width h c.in-Read.is c.byte_at.ensures
+    λ from h. over_read {β = β} c.args.from c.after.ensures c.term-found.ensures c.requires.ready.width h c.in-Read.is c.byte_at-times.ensures
     c.if-times.false c.requires.over_byte_value.0 exists divided
 
 pub multiply_term-returns-clause-moves : goal.multiply_term-returns-clause-moves
