@@ -17,7 +17,7 @@ fn compare(text: &[u8]) -> Vec<u8> {
         .stdin(Stdio::piped())
         .stdout(Stdio::piped())
         .spawn()
-        .unwrap_or_else(|error| panic!("{}: {error}; `rt check sheet` builds it", program.display()));
+        .unwrap_or_else(|error| panic!("{}: {error}; `.ci/sheet` builds it", program.display()));
     let mut input = child.stdin.take().expect("a pipe");
     let sent = text.to_vec();
     let writer = thread::spawn(move || match input.write_all(&sent) {

@@ -1,8 +1,8 @@
 -- Demand 1: "The buffers that a caller lends are written only by a call that succeeds. Every call ends, for all inputs, and a fault in the input
 -- brings back its number from the table in 01 with each buffer unchanged."
 --
--- That every call ends is part of its proof. Of each call there is said here that a refusal leaves each buffer as it was (`..-unchanged`); and that
--- it gives its value exactly if all its rules hold, is refused otherwise, and by the lowest number that applies (`..-refuses`). The rules of calls on
+-- That every call ends is part of its proof. Of each call there is said here that a refusal leaves each buffer as it was (`.._unchanged`); and that
+-- it gives its value exactly if all its rules hold, is refused otherwise, and by the lowest number that applies (`.._refuses`). The rules of calls on
 -- words, on sheets and on formulas come in parts, since there are exceptions from the lowest number: the 2, 14 and 15 of a selection come after 7,
 -- and 20 after these and before all others; the 2 of a length that follows from the marks comes after 20; 12 comes after these and before all others
 -- (`write_row`, `read_row`, `ride`); the 2 of a message's length comes after that of the word's and before 8 (`encode`, `message`); the steps of a

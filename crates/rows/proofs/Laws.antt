@@ -28,7 +28,7 @@ use Rattle.shortened.proofs.SettingLaws.{setting_accepted, setting_leaves, fits_
 use Rattle.nearest.specs.CodeWord.{CodeWord}
 use Rattle.nearest.proofs.Demand.{near_unique, repaired_code_word, repaired_within}
 use Rattle.nearest.specs.Repair.{distance, is_repairable, repaired_of}
-use Rattle.nearest.proofs.Search.{distance_self, near as Near-word, repairable as near_repairable}
+use Rattle.nearest.proofs.Search.{distance_self, near as near_word, repairable as near_repairable}
 use Rattle.repair.specs.Answers.{word_rules, turned_count}
 use Rattle.gears.specs.declared.Row.{Row}
 use Rattle.gears.specs.Rows.{is_row, row_bits, row_message, gear_in, lamp_in, further_zero, is_row_message, lamp_number, row_of}
@@ -98,7 +98,7 @@ module _ {c : Parameters} {h cols : List ℕ} (A : Accepted c h) (S : Selected c
   -- reading a word near it
   module _ {r : List ℕ} (received : IsBits (length cols) r) (near : distance (length cols) r W ≤ c.t) where
     repairable : is_repairable c h cols r ≡ true
-    repairable = near_repairable c h cols r row_word_lem.0.bits (Near-word c h cols r W row_word_lem.0.code near)
+    repairable = near_repairable c h cols r row_word_lem.0.bits (near_word c h cols r W row_word_lem.0.code near)
 
     repaired_is : repaired_of c h cols r ≡ W
     repaired_is =
