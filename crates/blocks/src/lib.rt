@@ -46,7 +46,8 @@ pub fn inverse(m: u32, a: &[Elem], out: &mut [Elem]) -> Outcome
         return Outcome::Refused(number);
     }
     let sum = dyadic::total(a);
-    if sum == 0 {
+    let zero = sum == 0;
+    if zero {
         return Outcome::Refused(refusals::SINGULAR);
     }
     dyadic::divide(m, a, field::internal::product(m, sum, sum), out);
@@ -91,7 +92,8 @@ fn pair_fault(m: u32, a: &[Elem], b: &[Elem], n: usize) -> u32
     if number != 0 {
         return number;
     }
-    if b.len() != a.len() {
+    let same = b.len() == a.len();
+    if !same {
         return refusals::LENGTH;
     }
     if !slices::all_elements(m, a) {

@@ -37,7 +37,8 @@ pub fn take_turns(repairs: u32, next: usize, marks: &mut [u8]) -> usize
     let mut turn = next;
     for _ in 0..senders {
         let following = after(sender, senders);
-        if marks[sender] == OTHER {
+        let other = marks[sender] == OTHER;
+        if other {
             if left == 0 {
                 marks[sender] = STAYS;
             } else {

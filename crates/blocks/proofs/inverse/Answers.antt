@@ -26,13 +26,13 @@ returns-then-number-ne0 c =
       out_after = first_refuses rules _ (λ k. g.out.now) _ number c.if-number-ne0.true;
     }
 
-pub returns-then-sum-eq0 : goal.returns-then-sum-eq0
+pub returns-then-zero : goal.returns-then-zero
 unfolding inverse_answer inverse_after inverse_fault inverse_rules block_fault block_rules size_rules is_invertible
-returns-then-sum-eq0 c =
+returns-then-zero c =
     let g = c.args in
     let rules = block_rules g.m g.a.now (length g.out.now) in
     let none = sym c.block_fault-number.ensures ∙ c.if-number-ne0.false in
-    let zero = sym (c.total-sum.ensures g.m) ∙ c.if-sum-eq0.true in
+    let zero = sym (c.total-sum.ensures g.m) ∙ c.if-zero.true in
     let number = sym (fault_rest rules _ tt none ∙ fault_here 9 _ (ap not (eq-eqb _ 0 zero))) in
     record {
       value = refuse Refused _ number (λ z. omega arith);
@@ -59,7 +59,7 @@ returns c =
     let none = sym c.block_fault-number.ensures ∙ c.if-number-ne0.false in
     let sum = c.total-sum.ensures g.m in
     let square = c.product.ensures.0 ∙ ap (λ (x : ℕ). (gf g.m).mul x x) sum in
-    let number = sym (fault_rest rules _ tt none ∙ fault_past 9 _ (ap not (ne_eqb _ 0 (λ z. c.if-sum-eq0.false (sum ∙ z)))) fault_empty) in
+    let number = sym (fault_rest rules _ tt none ∙ fault_past 9 _ (ap not (ne_eqb _ 0 (λ z. c.if-zero.false (sum ∙ z)))) fault_empty) in
     record {
       value = accept Refused _ number refl;
       out_after = c.divide.ensures ∙ ap (quotient (gf g.m) g.a.now) square ∙ accept (λ k. g.out.now) _ number refl;

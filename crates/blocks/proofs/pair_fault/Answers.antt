@@ -11,9 +11,9 @@ pub returns-then-number-ne0 : goal.returns-then-number-ne0
 unfolding pair_fault pair_rules
 returns-then-number-ne0 c = size_refuses _ _ _ _ c.size_fault-number.ensures c.if-number-ne0.true
 
-pub returns-then-b-a : goal.returns-then-b-a
+pub returns-then-not-same : goal.returns-then-not-same
 unfolding pair_fault pair_rules
-returns-then-b-a c = size_passes _ _ _ _ c.size_fault-number.ensures c.if-number-ne0.false (fault_here 2 _ (ne_eqb _ _ c.if-b-a.true))
+returns-then-not-same c = size_passes _ _ _ _ c.size_fault-number.ensures c.if-number-ne0.false (fault_here 2 _ (ne_eqb _ _ c.if-not-same.true))
 
 pub all_elements-requires : goal.all_elements-requires
 all_elements-requires c = width_checked _ _ _ (sym c.size_fault-number.ensures ∙ c.if-number-ne0.false)
@@ -22,7 +22,7 @@ pub returns-then-not-all_elements : goal.returns-then-not-all_elements
 unfolding pair_fault pair_rules
 returns-then-not-all_elements c =
     size_passes _ _ _ _ c.size_fault-number.ensures c.if-number-ne0.false
-    (fault_past 2 _ (eq-eqb _ _ c.if-b-a.false) (fault_here 3 _ (found_false c.all_elements.ensures c.if-not-all_elements.true)))
+    (fault_past 2 _ (eq-eqb _ _ c.if-not-same.false) (fault_here 3 _ (found_false c.all_elements.ensures c.if-not-all_elements.true)))
 
 pub all_elements-requires-2 : goal.all_elements-requires-2
 all_elements-requires-2 c =
@@ -33,7 +33,7 @@ unfolding pair_fault pair_rules
 returns-then-not-all_elements-2 c =
     let first = found_true c.all_elements.ensures c.if-not-all_elements.false in
     size_passes _ _ _ _ c.size_fault-number.ensures c.if-number-ne0.false
-    (fault_past 2 _ (eq-eqb _ _ c.if-b-a.false)
+    (fault_past 2 _ (eq-eqb _ _ c.if-not-same.false)
     (fault_past 3 _ first (fault_here 3 _ (found_false c.all_elements-2.ensures c.if-not-all_elements-2.true))))
 
 pub returns : goal.returns
@@ -41,4 +41,4 @@ unfolding pair_fault pair_rules
 returns c =
     let first = found_true c.all_elements.ensures c.if-not-all_elements.false in
     size_passes _ _ _ _ c.size_fault-number.ensures c.if-number-ne0.false
-    (fault_none _ (eq-eqb _ _ c.if-b-a.false, (first, (found_true c.all_elements-2.ensures c.if-not-all_elements-2.false, tt))))
+    (fault_none _ (eq-eqb _ _ c.if-not-same.false, (first, (found_true c.all_elements-2.ensures c.if-not-all_elements-2.false, tt))))

@@ -3,7 +3,7 @@ use mathlib.Core.Path.{refl}
 use native.Mathlib.Omega.{arith}
 use Rattle.turns.proofs.Turning.{turning_as, turning_start, turning_inside, turning_past, turning_late, turning_tried}
 use Rattle.turns.proofs.Turning.{turning_marks, turning_turn}
-use Rattle.turns.proofs.take_turns.Goals.{then-marks-sender-eq-OTHER+then-left-eq0, then-marks-sender-eq-OTHER+else-left-eq0, else-marks-sender-eq-OTHER}
+use Rattle.turns.proofs.take_turns.Goals.{then-other+then-left-eq0, then-other+else-left-eq0, else-other}
 use Rattle.turns.proofs.take_turns.Goals as goal
 
 -- src/lib.rt:38:5
@@ -36,15 +36,15 @@ loop-preserved c =
     let T = c.loop.invariant in
     let l = c.loop-test.true in
     let follows = c.after-following.ensures in
-    elim c.if-marks-sender-eq-OTHER.branch [
-      | then-marks-sender-eq-OTHER+then-left-eq0 w ↦
+    elim c.if-other.branch [
+      | then-other+then-left-eq0 w ↦
           turning_as w.marks-is w.left-is w.turn-is
-          (turning_late R next old c.requires T l follows w.if-marks-sender-eq-OTHER.true w.if-left-eq0.true)
-      | then-marks-sender-eq-OTHER+else-left-eq0 w ↦
+          (turning_late R next old c.requires T l follows w.if-other.true w.if-left-eq0.true)
+      | then-other+else-left-eq0 w ↦
           turning_as w.marks-is w.left-is w.turn-is
-          (turning_tried R next old c.requires T l follows w.if-marks-sender-eq-OTHER.true w.if-left-eq0.false refl)
-      | else-marks-sender-eq-OTHER w ↦
-          turning_as w.marks-is w.left-is w.turn-is (turning_past R next old c.requires T l follows w.if-marks-sender-eq-OTHER.false)
+          (turning_tried R next old c.requires T l follows w.if-other.true w.if-left-eq0.false refl)
+      | else-other w ↦
+          turning_as w.marks-is w.left-is w.turn-is (turning_past R next old c.requires T l follows w.if-other.false)
     ]
 
 -- src/lib.rt:29:1
