@@ -34,7 +34,8 @@ pub(crate) fn offer_fault(d: Dash, sender: usize, word: &[u8], waiting: &[u8]) -
     if waiting.len() <= sender {
         return refusals::SENDER;
     }
-    if waiting[sender] != 0 {
+    let waits = waiting[sender] != 0;
+    if waits {
         return refusals::WAITING;
     }
     if !all_bits(word) {

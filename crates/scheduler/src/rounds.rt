@@ -73,7 +73,8 @@ fn hand_one(
     if mark == STAYS {
         return NONE;
     }
-    if mark == CODE_WORD {
+    let whole = mark == CODE_WORD;
+    if whole {
         copy_bits(word, handed);
         return 0;
     }

@@ -19,7 +19,8 @@ pub const LONGEST: usize = 1 << LONGEST_LOG;
 pub fn is_power(s: usize) -> bool
     ensures { result ≡ is_power s }
 {
-    if LONGEST < s {
+    let long = LONGEST < s;
+    if long {
         return false;
     }
     let mut p: usize = 1;
@@ -47,7 +48,8 @@ pub fn all_bits(a: &[u8]) -> bool
     ensures { result ≡ all_bits a.now }
 {
     for i in 0..a.len() {
-        if 1 < a[i] {
+        let other = 1 < a[i];
+        if other {
             return false;
         }
     }

@@ -16,12 +16,12 @@ bit {x} l = lt-ltb x 2 (omega arith)
 pub loop-i-init : goal.loop-i-init
 loop-i-init c = (refl, scanning_start (length c.args.a.now) _)
 
-pub returns-then-a-i-gt1 : goal.returns-then-a-i-gt1
+pub returns-then-other : goal.returns-then-other
 unfolding all_bits
-returns-then-a-i-gt1 c = scanning_fails c.loop-i.invariant.1 c.loop-i-test.true (le-ltb _ 2 c.if-a-i-gt1.true)
+returns-then-other c = scanning_fails c.loop-i.invariant.1 c.loop-i-test.true (le-ltb _ 2 c.if-other.true)
 
 pub loop-i-preserved : goal.loop-i-preserved
-loop-i-preserved c = (refl, scanning_turn c.loop-i.invariant.1 c.loop-i-test.true (bit c.if-a-i-gt1.false))
+loop-i-preserved c = (refl, scanning_turn c.loop-i.invariant.1 c.loop-i-test.true (bit c.if-other.false))
 
 pub returns : goal.returns
 unfolding all_bits

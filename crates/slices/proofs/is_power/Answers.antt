@@ -6,11 +6,11 @@ use lib.Pow.{pow_pos}
 use Rattle.slices.proofs.Doubling.{doubling_start, doubling_turn, doubling_end, too_long}
 use Rattle.slices.proofs.is_power.Goals as goal
 
-pub returns-then-s-gt-LONGEST : goal.returns-then-s-gt-LONGEST
-returns-then-s-gt-LONGEST c = sym (too_long c.args.s c.if-s-gt-LONGEST.true)
+pub returns-then-long : goal.returns-then-long
+returns-then-long c = sym (too_long c.args.s c.if-long.true)
 
 pub loop-p-init : goal.loop-p-init
-loop-p-init c = (c.if-s-gt-LONGEST.false, doubling_start c.args.s)
+loop-p-init c = (c.if-long.false, doubling_start c.args.s)
 
 pub overflow_mul-p : goal.overflow_mul-p
 overflow_mul-p c = omega arith

@@ -15,22 +15,22 @@ returns-then-waiting-sender c =
     dash_passes a.d _ c.dash_fault-number.ensures c.if-number-ne0.false
     (offer_nobody a.d a.sender a.word.now a.waiting.now (omega arith))
 
-pub returns-then-waiting-sender-ne0 : goal.returns-then-waiting-sender-ne0
-returns-then-waiting-sender-ne0 c =
+pub returns-then-waits : goal.returns-then-waits
+returns-then-waits c =
     let a = c.args in
     dash_passes a.d _ c.dash_fault-number.ensures c.if-number-ne0.false
-    (offer_waits a.d a.sender a.word.now a.waiting.now (omega arith) c.if-waiting-sender-ne0.true)
+    (offer_waits a.d a.sender a.word.now a.waiting.now (omega arith) c.if-waits.true)
 
 pub returns-then-not-all_bits : goal.returns-then-not-all_bits
 returns-then-not-all_bits c =
     let a = c.args in
     dash_passes a.d _ c.dash_fault-number.ensures c.if-number-ne0.false
-    (offer_not_bits a.d a.sender a.word.now a.waiting.now (omega arith) c.if-waiting-sender-ne0.false
+    (offer_not_bits a.d a.sender a.word.now a.waiting.now (omega arith) c.if-waits.false
     (found_false c.all_bits.ensures c.if-not-all_bits.true))
 
 pub returns : goal.returns
 returns c =
     let a = c.args in
     dash_passes a.d _ c.dash_fault-number.ensures c.if-number-ne0.false
-    (offer_none a.d a.sender a.word.now a.waiting.now (omega arith) c.if-waiting-sender-ne0.false
+    (offer_none a.d a.sender a.word.now a.waiting.now (omega arith) c.if-waits.false
     (found_true c.all_bits.ensures c.if-not-all_bits.false))

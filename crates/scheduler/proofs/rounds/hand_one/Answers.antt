@@ -13,10 +13,10 @@ pub copy_bits-requires : goal.copy_bits-requires
 copy_bits-requires c =
     let s = c.requires in s.word_len.1 ∙ sym s.word_len.0
 
-pub returns-then-mark-eq-CODE_WORD : goal.returns-then-mark-eq-CODE_WORD
-returns-then-mark-eq-CODE_WORD c =
+pub returns-then-whole : goal.returns-then-whole
+returns-then-whole c =
     let a = c.args in
-    let (bits, is) = c.requires.bits c.if-mark-eq-CODE_WORD.true in
+    let (bits, is) = c.requires.bits c.if-whole.true in
     let ended = code_word_handed a.c a.h.now a.cols.now a.word.now a.handed.now c.requires.on_columns.0 bits is
     c.if-mark-eq-STAYS.false
     c.copy_bits.ensures in
