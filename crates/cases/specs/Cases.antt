@@ -1,122 +1,95 @@
 -- 01's cases marked P, as one table with one proof over its rows. A row has what the public definitions give, computed, and what 01 says.
-use Rattle.std.specs.Prelude.{◌≡◌, refl, Bool, true, ◌&&◌, List, [], ◌∷◌, ℕ, suc, ◌^◌, length}
-use Rattle.algebra.specs.All.{all, some}
-use Rattle.algebra.specs.Flags.{both_true}
-use Rattle.algebra.specs.Bits.{bit_at}
-use Rattle.algebra.specs.Distinct.{distinct}
-use Rattle.algebra.specs.Sum.{sum}
+use Rattle.std.specs.Prelude.{◌≡◌, Bool, true, ◌&&◌, List, [], ◌∷◌, ℕ, suc, ◌^◌, length}
 use Rattle.algebra.specs.Tabulate.{tabulate}
-use Rattle.algebra.specs.Xor.{◌⊕◌}
 use Rattle.field.specs.declared.Answer.{Answer}
 use Rattle.field.specs.declared.Answer.TheVariants.{Element, Refused as NoElement}
-use Rattle.field.specs.Answers.{element_rules, element_fault, pair_fault, product_answer, inverse_answer}
-use Rattle.field.specs.Product.{poly_product, cut_back, remainder, product, squares, inverse}
-use Rattle.refusals.specs.Rules.{fault, unless_refused}
-use Rattle.field.specs.Range.{is_width, is_element}
-use Rattle.field.specs.Words.{words, word}
+use Rattle.field.specs.Answers.{product_answer, inverse_answer}
 use Rattle.refusals.specs.declared.Outcome.{Outcome}
 use Rattle.refusals.specs.declared.Outcome.TheVariants.{Done, Refused}
-use Rattle.slices.specs.Elements.{all_elements}
-use Rattle.slices.specs.Lengths.{is_power}
-use Rattle.blocks.specs.Answers.{size_rules, block_rules, pair_rules as blockPairRules, inverse_rules, pair_fault as blockPairFault, inverse_fault as blockInverseFault, product_answer as blockProductAnswer, product_after as blockProductAfter, inverse_answer as blockInverseAnswer, inverse_after as blockInverseAfter}
-use Rattle.dyadic.specs.Block.{block_product, total, quotient, block_inverse}
-use Rattle.dyadic.specs.Invertible.{is_invertible}
+use Rattle.blocks.specs.Answers.{product_answer as blockProductAnswer, product_after as blockProductAfter, inverse_answer as blockInverseAnswer, inverse_after as blockInverseAfter}
 use Rattle.params.specs.declared.Parameters.{Parameters}
-use Rattle.params.specs.Code.{is_length, is_root_count, shape_rules, code_rules}
-use Rattle.essence.specs.Choices.{choice_sum, vanishes, dependent}
-use Rattle.essence.specs.Essence.{essence_from, essence_of, chosen_at, signature_of as signatureFrom}
-use Rattle.essence.specs.Answers.{is_value_count, shape_rules as essenceShapeRules, essence_rules, essence_fault, essence_answer, essence_after}
-use Rattle.essence.specs.Answers.{value_rules, signature_fault, signature_answer, signature_after}
-use Rattle.codes.specs.Answers.{check_fault, check_answer, support_after}
-use Rattle.signature.specs.Tests.{signature_rules, inverse_at, nonzero, no_zero, pair_kept, affine, linear}
-use Rattle.signature.specs.Signature.{root_at, support_at}
-use Rattle.algebra.specs.Lists.{same_entry, same_list}
-use Rattle.algebra.specs.ListLaws.{same_list_is}
-use Rattle.messages.specs.MessageRules.{message_rules}
-use Rattle.words.specs.Answers.{encode_fault, encode_answer, encode_after}
-use Rattle.parity.specs.Columns.{word_of, is_sum_of, is_sum, is_message_column, dimension, message_of, encoding_of}
-use Rattle.algebra.specs.Places.{count, chosen, found}
-use Rattle.columns.specs.Choice.{all_columns, choice_rules}
-use Rattle.shortened.specs.Marks.{sent_count, sent_of, hidden_pass, hides_messages, mark_rules}
-use Rattle.shortened.specs.Setting.{short_code, places, columns_of, setting_rules}
-use Rattle.parity.specs.Word.{whole, parity_at, held, syndrome_at, is_code_word}
-use Rattle.slices.specs.Bits.{all_bits}
-use Rattle.nearest.specs.Repair.{differs, distance, is_near, is_repairable, repaired_of}
+use Rattle.essence.specs.Answers.{essence_answer, essence_after}
+use Rattle.essence.specs.Answers.{signature_answer, signature_after}
+use Rattle.codes.specs.Answers.{check_answer, support_after}
+use Rattle.algebra.specs.Lists.{same_list}
+use Rattle.words.specs.Answers.{encode_answer, encode_after}
+use Rattle.algebra.specs.Places.{count}
+use Rattle.shortened.specs.Setting.{short_code, places}
 use Rattle.repair.specs.declared.Recovery.{Recovery}
 use Rattle.repair.specs.declared.Recovery.TheVariants.{Repaired, Refused as NotRepaired}
-use Rattle.repair.specs.Answers.{word_rules, turned_count, repair_fault, repair_answer, repair_after}
+use Rattle.repair.specs.Answers.{repair_answer, repair_after}
 
 -- ---- answers as lists of numbers: 0 or the refusal's number, then the value and what the lent buffer holds
 
-element : Answer → List ℕ
+unfoldable pub element : Answer → List ℕ
 element (Element a) = 0 ∷ a ∷ []
 element (NoElement k) = k ∷ []
 
-outcome : Outcome → List ℕ → List ℕ
+unfoldable pub outcome : Outcome → List ℕ → List ℕ
 outcome Done buffer = 0 ∷ buffer
 outcome (Refused k) buffer = k ∷ buffer
 
-recovery : Recovery → List ℕ → List ℕ
+unfoldable pub recovery : Recovery → List ℕ → List ℕ
 recovery (Repaired count) buffer = 0 ∷ count ∷ buffer
 recovery (NotRepaired k) buffer = k ∷ buffer
 
 -- ---- the calls of the cases; a lent buffer is marked at first, with a number that no call of the cases writes, so that an unchanged buffer shows
 
-marked : ℕ → List ℕ
+unfoldable pub marked : ℕ → List ℕ
 marked n = tabulate n mark
   where
     mark : ℕ → ℕ
     mark i = 99
 
 -- marks that hide nothing
-sent : ℕ → List ℕ
+unfoldable pub sent : ℕ → List ℕ
 sent n = tabulate n zero_at
   where
     zero_at : ℕ → ℕ
     zero_at i = 0
 
-block_product_of : ℕ → List ℕ → List ℕ → List ℕ
+unfoldable pub block_product_of : ℕ → List ℕ → List ℕ → List ℕ
 block_product_of m a b =
     let lent = marked (length a) in outcome (blockProductAnswer m a b lent) (blockProductAfter m a b lent)
 
-block_inverse_of : ℕ → List ℕ → List ℕ
+unfoldable pub block_inverse_of : ℕ → List ℕ → List ℕ
 block_inverse_of m a =
     let lent = marked (length a) in outcome (blockInverseAnswer m a lent) (blockInverseAfter m a lent)
 
 -- the numbers of a card with one root and no offset
-card : ℕ → ℕ → Parameters
+unfoldable pub card : ℕ → ℕ → Parameters
 card m n = record { m = m; n = n; t = 1; omega = 0 }
 
 -- whether a signature is accepted, with one root and no offset, and its support
-signature_of : ℕ → List ℕ → List ℕ
+unfoldable pub signature_of : ℕ → List ℕ → List ℕ
 signature_of m h =
     let lent = marked (length h) in
     let none = sent (length h) in outcome (check_answer (card m (length h)) h none lent lent) (support_after (card m (length h)) h none lent lent)
 
 -- the essence of a signature of 2^e entries, and the signature of an essence with as much room
-essence_for : ℕ → ℕ → List ℕ → List ℕ
+unfoldable pub essence_for : ℕ → ℕ → List ℕ → List ℕ
 essence_for m e h =
     let lent = marked (suc e) in outcome (essence_answer m h lent) (essence_after m h lent)
 
-signature_for : ℕ → ℕ → List ℕ → List ℕ
+unfoldable pub signature_for : ℕ → ℕ → List ℕ → List ℕ
 signature_for m e v =
     let lent = marked (2 ^ e) in outcome (signature_answer m v lent) (signature_after m v lent)
 
 -- card T
-signature_t : List ℕ
+unfoldable pub signature_t : List ℕ
 signature_t = 12 ∷ 8 ∷ 10 ∷ 22 ∷ 26 ∷ 9 ∷ 16 ∷ 21 ∷ 14 ∷ 5 ∷ 17 ∷ 4 ∷ 30 ∷ 23 ∷ 25 ∷ 31 ∷ []
 
 -- card A
-signature_a : List ℕ
+unfoldable pub signature_a : List ℕ
 signature_a = 7 ∷ 2 ∷ 3 ∷ 4 ∷ []
 
 -- on card A, with these marks
-encoding_a : List ℕ → List ℕ → List ℕ
+unfoldable pub encoding_a : List ℕ → List ℕ → List ℕ
 encoding_a hidden message =
     let s = short_code hidden in
     let lent = marked (places s) in outcome (encode_answer (card 3 4) signature_a s message lent) (encode_after (card 3 4) signature_a s message lent)
 
-repair_a : List ℕ → List ℕ → List ℕ
+unfoldable pub repair_a : List ℕ → List ℕ → List ℕ
 repair_a hidden received =
     let s = short_code hidden in
     let lent = marked (places s) in recovery (repair_answer (card 3 4) signature_a s received lent) (repair_after (card 3 4) signature_a s received lent)
@@ -127,10 +100,10 @@ pub record Case : Type 0 where
   pub given : List ℕ
   pub said : List ℕ
 
-is : List ℕ → List ℕ → Case
+unfoldable pub is : List ℕ → List ℕ → Case
 is given said = record { given = given; said = said }
 
-pub table : List Case
+unfoldable pub table : List Case
 table =
     -- "width 5: 2 times 16 is 5; the inverse of 12 is 7."
     is (element (product_answer 5 2 16)) (0 ∷ 5 ∷ [])
@@ -158,22 +131,12 @@ table =
     ∷ is (signature_for 5 4 (17 ∷ 30 ∷ 18 ∷ 1 ∷ 7 ∷ [])) (0 ∷ signature_t)
     ∷ []
 
--- ---- one proof over its rows
+-- ---- that the rows agree, which one proof shows (proofs/Table.antt)
 
-agree : List Case → Bool
+unfoldable pub agree : List Case → Bool
 agree [] = true
 agree (c ∷ cs) = same_list c.given c.said && agree cs
 
 abbrev pub Hold : List Case → Type 0
 Hold [] = Unit {0}
 Hold (c ∷ cs) = (c.given ≡ c.said) × Hold cs
-
-agreeing : (cs : List Case) → agree cs ≡ true → Hold cs
-unfolding agree
-agreeing [] e = tt
-agreeing (c ∷ cs) e =
-    let (here, rest) = both_true (same_list c.given c.said) (agree cs) e in ((same_list_is c.given c.said).0 here, agreeing cs rest)
-
-pub table_holds : Hold table
-unfolding agree table is element outcome recovery marked sent card block_product_of block_inverse_of signature_of essence_for signature_for signature_t signature_a encoding_a repair_a element_rules element_fault pair_fault product_answer inverse_answer poly_product cut_back remainder product squares inverse fault unless_refused is_width is_element words word all_elements is_power size_rules block_rules blockPairRules inverse_rules blockPairFault blockInverseFault blockProductAnswer blockProductAfter blockInverseAnswer blockInverseAfter block_product total quotient block_inverse is_invertible choice_sum vanishes dependent essence_from essence_of chosen_at signatureFrom is_value_count essenceShapeRules essence_rules essence_fault essence_answer essence_after value_rules signature_fault signature_answer signature_after check_fault check_answer support_after is_length is_root_count shape_rules signature_rules code_rules root_at support_at inverse_at nonzero no_zero pair_kept affine linear distinct message_rules encode_fault encode_answer encode_after count chosen word_of found same_list same_entry is_sum_of is_sum is_message_column dimension message_of encoding_of whole all_columns choice_rules sent_count sent_of hidden_pass hides_messages mark_rules columns_of setting_rules all_bits parity_at held syndrome_at is_code_word word_rules turned_count repair_fault repair_answer repair_after distance is_near is_repairable differs repaired_of all some bit_at sum tabulate ◌⊕◌
-table_holds = agreeing table refl
