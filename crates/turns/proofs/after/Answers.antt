@@ -5,10 +5,8 @@ use native.Mathlib.Nat.{mod-eq_of_lt, mod_self}
 use native.Mathlib.Omega.{arith}
 use Rattle.turns.proofs.after.Goals as goal
 
--- src/lib.rt:22:9
 pub returns-then-following-senders : goal.returns-then-following-senders
 returns-then-following-senders c = sym (ap (λ (x : ℕ). x % c.args.senders) c.if-following-senders.true ∙ mod_self c.args.senders)
 
--- src/lib.rt:16:1
 pub returns : goal.returns
 returns c = sym (mod-eq_of_lt (omega (arith, c.requires)))

@@ -6,23 +6,19 @@ use Rattle.turns.proofs.Turning.{turning_marks, turning_turn}
 use Rattle.turns.proofs.take_turns.Goals.{then-other+then-left-eq0, then-other+else-left-eq0, else-other}
 use Rattle.turns.proofs.take_turns.Goals as goal
 
--- src/lib.rt:38:5
 pub loop-init : goal.loop-init
 loop-init c =
     turning_start c.args.repairs c.args.next c.args.marks.now c.requires
 
--- src/lib.rt:39:13
 pub after-following-requires : goal.after-following-requires
 after-following-requires c =
     let T = c.loop.invariant in
     omega (arith, turning_inside c.args.repairs c.args.next c.args.marks.now c.requires T (omega arith), T.long)
 
--- src/lib.rt:40:12
 pub bounds-marks-sender : goal.bounds-marks-sender
 bounds-marks-sender c =
     turning_inside c.args.repairs c.args.next c.args.marks.now c.requires c.loop.invariant (omega arith)
 
--- src/lib.rt:42:17
 pub bounds-marks-sender-then-left-eq0 : goal.bounds-marks-sender-then-left-eq0
 bounds-marks-sender-then-left-eq0 c =
     turning_inside c.args.repairs c.args.next c.args.marks.now c.requires c.loop.invariant
@@ -47,11 +43,9 @@ loop-preserved c =
           turning_as w.marks-is w.left-is w.turn-is (turning_past R next old c.requires T l follows w.if-other.false)
     ]
 
--- src/lib.rt:29:1
 pub shape_of-marks : goal.shape_of-marks
 shape_of-marks c = c.loop.invariant.long
 
--- src/lib.rt:29:1
 pub returns : goal.returns
 returns c =
     let T = c.loop.invariant in
