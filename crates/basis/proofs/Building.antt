@@ -1,14 +1,18 @@
 -- A packed row that is built bit by bit: the places passed hold what they should, and the others nothing.
 use mathlib.Core.Path.{◌≡◌, sym, ap, ◌∙◌, subst}
 use mathlib.Core.List.{List}
-use Prim.Native.Nat.{ℕ, ◌+◌, ◌*◌, ◌≤◌, ◌<◌}
+use Prim.Native.Nat.{ℕ, ◌+◌, ◌*◌, ◌/◌, ◌%◌, ◌≤◌, ◌<◌}
 use native.Mathlib.Nat.{not-suc-le-zero, le_refl}
 use native.Mathlib.Omega.{arith}
 use borrow.Author.Count.{below_more}
-use lib.ListN.{length}
+use lib.ListN.{length, replicate}
+use Rattle.std.proofs.lemmas.List.{length-replicate, get_or-replicate}
+use Rattle.algebra.specs.Bits.{bit_at}
+use Rattle.algebra.specs.BitLaws.{bit_at-zero}
+use Rattle.algebra.specs.Lists.{entry_of}
 use Rattle.algebra.specs.Xor.{◌⊕◌}
 use Rattle.algebra.specs.XorLaws.{zero-⊕}
-use Rattle.basis.specs.Packed.{packed_bit, Packs, Cleared, Marked}
+use Rattle.basis.specs.Packed.{packed_bit, Packs, Marked}
 
 pub record Building (f : ℕ → ℕ) (n : ℕ) (row : List ℕ) (j : ℕ) : Type 0 where
   pub room : n ≤ length row * 64
@@ -16,13 +20,15 @@ pub record Building (f : ℕ → ℕ) (n : ℕ) (row : List ℕ) (j : ℕ) : Typ
   pub done : Packs j f row
   pub empty : (q : ℕ) → j ≤ q → q < n → packed_bit row q ≡ 0
 
-pub building_start : (f : ℕ → ℕ) (n : ℕ) {old row : List ℕ} → n ≤ length old * 64 → Cleared old row → Building f n row 0
-building_start f n h c =
+pub building_start : (f : ℕ → ℕ) (n : ℕ) (words : ℕ) {row : List ℕ} → n ≤ words * 64 → row ≡ replicate words 0 → Building f n row 0
+unfolding packed_bit
+building_start f n words {row} h e =
     record {
-      room = subst (λ (k : ℕ). n ≤ k * 64) (sym c.long) h;
+      room = subst (λ (l : List ℕ). n ≤ length l * 64) (sym e) (subst (λ (k : ℕ). n ≤ k * 64) (sym (length-replicate {A = ℕ} words 0)) h);
       bound = omega arith;
       done = λ q l. absurd (not-suc-le-zero l);
-      empty = λ q a l. c.empty q (omega arith);
+      empty = λ q a l. ap (λ (l : List ℕ). bit_at (entry_of l (q / 64)) (q % 64)) e
+          ∙ ap (λ (x : ℕ). bit_at x (q % 64)) (get_or-replicate words (q / 64) 0 0 (omega arith)) ∙ bit_at-zero (q % 64);
     }
 
 module _ {f : ℕ → ℕ} {n : ℕ} {row : List ℕ} {j : ℕ} (B : Building f n row j) where

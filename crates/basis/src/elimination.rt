@@ -1,22 +1,46 @@
 // An echelon basis of the rows of the parity check matrix: each row leads at its first place, and at most one row leads at a place.
-ghost use Rattle.std.specs.Prelude.{◌≡◌, ℕ, ◌*◌, ◌<◌, ◌≤◌, length};
+ghost use Rattle.std.specs.Prelude.{◌≡◌, ℕ, ◌*◌, ◌<◌, ◌≤◌, length, replicate};
+ghost use Rattle.algebra.specs.Bits.{bit_at};
 ghost use Rattle.algebra.specs.Lists.{entry_of};
 ghost use Rattle.algebra.specs.Xor.{◌⊕◌};
 ghost use Rattle.field.specs.Gf.{Width};
 ghost use Rattle.slices.specs.Lengths.{longest};
 ghost use Rattle.basis.specs.Packed.{Packs};
-ghost use Rattle.basis.specs.Table.{row_words, Room, Form, RowFits, Reduced, Stored, Inserted, parity_bit, ParityBasis, RowReaches, Reaches};
+ghost use Rattle.basis.specs.Table.{row_words, Form, RowFits, Reduced, Stored, Inserted, parity_bit, ParityBasis, RowReaches, Reaches};
 
 use crate::packed::ROW;
 use crate::{Column, packed};
 use field::Elem;
+use slices::LONGEST;
 
-// Bit b of the parity check matrix's entry in row i at place j, which is h_(i ⊕ cols_j).
-fn parity_bit(h: &[Elem], cols: &[Column], i: usize, b: u64, j: usize) -> u64
-    requires { (b < 64) × (j < length cols.now) × (i ⊕ entry_of cols.now j < length h.now) }
-    ensures { (result ≡ parity_bit h.now cols.now i b j) × (result < 2) }
+// The words of a table that has a row for each place.
+const TABLE: usize = LONGEST * ROW;
+
+// A basis: row p, which leads at place p, stands in `rows` from p * ROW on where `leads` has 1 at p.
+#[derive(Drop)]
+pub struct Basis {
+    pub rows: [u64; TABLE],
+    pub leads: [u8; LONGEST],
+}
+
+impl Basis {
+    // A basis without a row.
+    pub fn new() -> Basis
+        ensures { (result.rows ≡ replicate (longest * row_words) 0) × (result.leads ≡ replicate longest 0) }
+    {
+        Basis {
+            rows: [0; TABLE],
+            leads: [0; LONGEST],
+        }
+    }
+}
+
+// Bit b of the parity check matrix's entry in row i at a place, which is h_(i ⊕ column).
+fn parity_bit(h: &[Elem], column: Column, i: usize, b: u64) -> u64
+    requires { (b < 64) × (i ⊕ column < length h.now) }
+    ensures { (result ≡ bit_at (entry_of h.now (i ⊕ column)) b) × (result < 2) }
 {
-    let at = i ^ cols[j] as usize;
+    let at = i ^ column as usize;
     (h[at] as u64 >> b) % 2
 }
 
@@ -25,9 +49,9 @@ fn parity_row(h: &[Elem], cols: &[Column], i: usize, b: u64, row: &mut [u64])
     requires { (length cols.now ≤ length row.old * 64) × (b < 64) × RowReaches i h.now cols.now }
     ensures { Packs (length cols.now) (parity_bit h.now cols.now i b) row.new }
 {
-    packed::clear(row);
-    for j in 0..cols.len() {
-        packed::mark(row, j, parity_bit(h, cols, i, b, j));
+    row.fill(0);
+    for (j, column) in cols.iter().enumerate() {
+        packed::mark(row, j, parity_bit(h, *column, i, b));
     }
 }
 
@@ -42,64 +66,51 @@ fn reduce(p: usize, rows: &[u64], row: &mut [u64])
 }
 
 // Makes the row the one that leads at place p, where none does yet.
-fn store(p: usize, row: &[u64], rows: &mut [u64], leads: &mut [u8])
-    requires { RowFits p rows.old row.now × (p < length leads.old) }
-    ensures { Stored p row.now rows.old leads.old rows.new leads.new }
+fn store(p: usize, row: &[u64], basis: &mut Basis)
+    requires { RowFits p basis.old.rows row.now }
+    ensures { Stored p row.now basis.old.rows basis.old.leads basis.new.rows basis.new.leads }
 {
     let start = p * ROW;
     let end = start + ROW;
-    packed::copy(row, &mut rows[start..end]);
-    leads[p] = 1;
+    basis.rows[start..end].copy_from_slice(row);
+    basis.leads[p] = 1;
 }
 
 // Brings a row in, which is used up, and says how many rows more the basis has: none or one.
-fn insert(n: usize, row: &mut [u64], rows: &mut [u64], leads: &mut [u8]) -> usize
-    requires { Form n rows.old leads.old × (length row.old ≡ row_words) }
-    ensures { Inserted n row.old rows.old leads.old result rows.new leads.new }
+fn insert(n: usize, row: &mut [u64], basis: &mut Basis) -> usize
+    requires { Form n basis.old.rows basis.old.leads × (length row.old ≡ row_words) }
+    ensures { Inserted n row.old basis.old.rows basis.old.leads result basis.new.rows basis.new.leads }
 {
+    // By index: p is a place of the row, of the rows and of the leads.
     for p in 0..n {
         if packed::bit(row, p) == 1 {
-            if leads[p] != 1 {
-                store(p, row, rows, leads);
+            if basis.leads[p] != 1 {
+                store(p, row, basis);
                 return 1;
             }
-            reduce(p, rows, row);
+            reduce(p, &basis.rows, row);
         }
     }
     0
 }
 
 // The basis of all rows of the matrix, and the number of its rows.
-pub fn parity_basis(
-    m: u32,
-    t: usize,
-    h: &[Elem],
-    cols: &[Column],
-    rows: &mut [u64],
-    leads: &mut [u8],
-) -> usize
-    requires { Width m × (t ≤ longest) × Room (length cols.now) rows.old leads.old × Reaches t h.now cols.now }
-    ensures { ParityBasis m t h.now cols.now rows.new leads.new result }
+pub fn parity_basis(m: u32, t: usize, h: &[Elem], cols: &[Column], basis: &mut Basis) -> usize
+    requires { Width m × (t ≤ longest) × (length cols.now ≤ longest) × Reaches t h.now cols.now }
+    ensures { ParityBasis m t h.now cols.now basis.new.rows basis.new.leads result }
 {
-    no_leads(leads);
+    basis.leads.fill(0);
     let width = m as usize;
     let mut row: [u64; ROW] = [0; ROW];
     let mut rank = 0;
+    // By index: k is the row's number, from which its element and its bit are told.
     for k in 0..t * width {
         // Where every place has a row, the rows that are left say nothing new.
         if cols.len() <= rank {
             break;
         }
         parity_row(h, cols, k / width, (k % width) as u64, &mut row);
-        rank += insert(cols.len(), &mut row, rows, leads);
+        rank += insert(cols.len(), &mut row, basis);
     }
     rank
-}
-
-fn no_leads(leads: &mut [u8])
-    ensures { (p : ℕ) → p < length leads.old → entry_of leads.new p ≡ 0 }
-{
-    for p in 0..leads.len() {
-        leads[p] = 0;
-    }
 }

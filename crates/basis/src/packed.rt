@@ -1,6 +1,6 @@
 // Rows of bits packed into machine words: bit p of a row is bit p % 64 of its word p / 64.
 ghost use Rattle.std.specs.Prelude.{◌≡◌, ◌*◌, ◌<◌, length};
-ghost use Rattle.basis.specs.Packed.{packed_bit, Added, Cleared, Marked};
+ghost use Rattle.basis.specs.Packed.{packed_bit, Added, Marked};
 
 use slices::LONGEST;
 
@@ -19,16 +19,8 @@ pub(crate) fn add(from: &[u64], to: &mut [u64])
     requires { length to.old ≡ length from.now }
     ensures { Added from.now to.old to.new }
 {
-    for k in 0..from.len() {
-        to[k] ^= from[k];
-    }
-}
-
-pub(crate) fn clear(row: &mut [u64])
-    ensures { Cleared row.old row.new }
-{
-    for k in 0..row.len() {
-        row[k] = 0;
+    for (k, word) in to.iter_mut().enumerate() {
+        *word ^= from[k];
     }
 }
 
@@ -38,13 +30,4 @@ pub(crate) fn mark(row: &mut [u64], p: usize, b: u64)
     ensures { Marked row.old p b row.new }
 {
     row[p / 64] ^= b << (p % 64) as u64;
-}
-
-pub(crate) fn copy(from: &[u64], to: &mut [u64])
-    requires { length to.old ≡ length from.now }
-    ensures { to.new ≡ from.now }
-{
-    for k in 0..from.len() {
-        to[k] = from[k];
-    }
 }

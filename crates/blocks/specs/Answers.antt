@@ -2,8 +2,8 @@
 -- first such rule, and the buffer as it was.
 use Rattle.std.specs.Prelude.{List, [], ◌∷◌, ◌++◌, ℕ, eqb, length}
 use Rattle.refusals.specs.Rules.{Rule, ◌unless◌, fault, unless_refused}
-use Rattle.refusals.specs.declared.Outcome.{Outcome}
-use Rattle.refusals.specs.declared.Outcome.TheVariants.{Done, Refused}
+use Rattle.refusals.specs.Outcome.{Outcome}
+use Rattle.refusals.specs.Outcome.{Done, Refused}
 use Rattle.field.specs.Gf.{gf}
 use Rattle.field.specs.Range.{is_width}
 use Rattle.slices.specs.Lengths.{is_power}

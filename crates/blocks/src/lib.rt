@@ -2,105 +2,91 @@
 // entry i, j equal to the signature at i ⊕ j.
 //
 // The calls of this file take any input: what is out of range is refused by its number, and the lent buffer is written only where the call is
-// Done. What they are made of, for slices that have been checked, stands in `dyadic`.
+// Ok. What they are made of, for slices that have been checked, stands in `dyadic`.
 #![tactic(auto)]
 
 ghost use Rattle.std.specs.Prelude.{◌≡◌};
+ghost use Rattle.refusals.specs.Outcome.{tested};
 ghost use Rattle.blocks.specs.Answers.{size_fault, pair_fault, block_fault};
 ghost use Rattle.blocks.specs.Answers.{sum_answer, sum_after, product_answer, product_after, inverse_answer, inverse_after};
 
 use field::Elem;
-use refusals::Outcome;
+use refusals::{Refusal, Rule};
 
-pub fn sum(m: u32, a: &[Elem], b: &[Elem], out: &mut [Elem]) -> Outcome
+pub fn sum(m: u32, a: &[Elem], b: &[Elem], out: &mut [Elem]) -> Result<(), Refusal>
     ensures value { result ≡ sum_answer m a.now b.now out.old }
     ensures out_after { out.new ≡ sum_after m a.now b.now out.old }
 {
-    let number = pair_fault(m, a, b, out.len());
-    if number != 0 {
-        return Outcome::Refused(number);
-    }
+    check_pair(m, a, b, out.len())?;
     dyadic::sum(a, b, out);
-    Outcome::Done
+    Ok(())
 }
 
-pub fn product(m: u32, a: &[Elem], b: &[Elem], out: &mut [Elem]) -> Outcome
+pub fn product(m: u32, a: &[Elem], b: &[Elem], out: &mut [Elem]) -> Result<(), Refusal>
     ensures value { result ≡ product_answer m a.now b.now out.old }
     ensures out_after { out.new ≡ product_after m a.now b.now out.old }
 {
-    let number = pair_fault(m, a, b, out.len());
-    if number != 0 {
-        return Outcome::Refused(number);
-    }
+    check_pair(m, a, b, out.len())?;
     dyadic::clear(out);
     dyadic::add_product(m, a, b, out);
-    Outcome::Done
+    Ok(())
 }
 
-pub fn inverse(m: u32, a: &[Elem], out: &mut [Elem]) -> Outcome
+pub fn inverse(m: u32, a: &[Elem], out: &mut [Elem]) -> Result<(), Refusal>
     ensures value { result ≡ inverse_answer m a.now out.old }
     ensures out_after { out.new ≡ inverse_after m a.now out.old }
 {
-    let number = block_fault(m, a, out.len());
-    if number != 0 {
-        return Outcome::Refused(number);
-    }
+    check_block(m, a, out.len())?;
     let sum = dyadic::total(a);
     let zero = sum == 0;
     if zero {
-        return Outcome::Refused(refusals::SINGULAR);
+        return Err(Refusal(Rule::Singular));
     }
     dyadic::divide(m, a, field::internal::product(m, sum, sum), out);
-    Outcome::Done
+    Ok(())
 }
 
-// The number that refuses a width, a block's length s and the length n of the buffer for a result, or 0.
-fn size_fault(m: u32, s: usize, n: usize) -> u32
-    ensures { result ≡ size_fault m s n }
+// Whether a width, a block's length s and the length n of the buffer for a result are what they should be.
+fn check_size(m: u32, s: usize, n: usize) -> Result<(), Refusal>
+    ensures { result ≡ tested (size_fault m s n) }
 {
     if !field::internal::is_width(m) {
-        return refusals::WIDTH;
+        return Err(Refusal(Rule::Width));
     }
     if !slices::is_power(s) {
-        return refusals::LENGTH;
+        return Err(Refusal(Rule::Length));
     }
     if n != s {
-        return refusals::LENGTH;
+        return Err(Refusal(Rule::Length));
     }
-    0
+    Ok(())
 }
 
-// The number that refuses a block, or 0.
-fn block_fault(m: u32, a: &[Elem], n: usize) -> u32
-    ensures { result ≡ block_fault m a.now n }
+// The same for a block.
+fn check_block(m: u32, a: &[Elem], n: usize) -> Result<(), Refusal>
+    ensures { result ≡ tested (block_fault m a.now n) }
 {
-    let number = size_fault(m, a.len(), n);
-    if number != 0 {
-        return number;
-    }
+    check_size(m, a.len(), n)?;
     if !slices::all_elements(m, a) {
-        return refusals::RANGE;
+        return Err(Refusal(Rule::Range));
     }
-    0
+    Ok(())
 }
 
-// The number that refuses two blocks, or 0.
-fn pair_fault(m: u32, a: &[Elem], b: &[Elem], n: usize) -> u32
-    ensures { result ≡ pair_fault m a.now b.now n }
+// The same for two blocks.
+fn check_pair(m: u32, a: &[Elem], b: &[Elem], n: usize) -> Result<(), Refusal>
+    ensures { result ≡ tested (pair_fault m a.now b.now n) }
 {
-    let number = size_fault(m, a.len(), n);
-    if number != 0 {
-        return number;
-    }
+    check_size(m, a.len(), n)?;
     let same = b.len() == a.len();
     if !same {
-        return refusals::LENGTH;
+        return Err(Refusal(Rule::Length));
     }
     if !slices::all_elements(m, a) {
-        return refusals::RANGE;
+        return Err(Refusal(Rule::Range));
     }
     if !slices::all_elements(m, b) {
-        return refusals::RANGE;
+        return Err(Refusal(Rule::Range));
     }
-    0
+    Ok(())
 }

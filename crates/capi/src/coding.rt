@@ -6,6 +6,7 @@ ghost use Rattle.wire.specs.Wire.{code, outcome_code, counted_code};
 
 use field::Elem;
 use params::Parameters;
+use shortened::Setting;
 
 #[unsafe(no_mangle)]
 pub extern "C" fn zov_roles(
@@ -20,7 +21,8 @@ pub extern "C" fn zov_roles(
     ensures value { result ≡ counted_code (roles_answer (code m n t omega) h.now (short_code hidden.now) roles.old) }
     ensures roles_after { roles.new ≡ roles_after (code m n t omega) h.now (short_code hidden.now) roles.old }
 {
-    wire::counted_code(words::roles(Parameters { m, n, t, omega }, h, hidden, roles))
+    let s = Setting::whole_code(hidden);
+    wire::counted_code(words::roles(Parameters { m, n, t, omega }, h, &s, roles))
 }
 
 #[unsafe(no_mangle)]
@@ -39,7 +41,8 @@ pub extern "C" fn zov_syndrome(
     ensures out_after { out.new ≡ syndrome_after (code m n t omega) h.now (short_code hidden.now) word.now
         out.old }
 {
-    wire::outcome_code(words::syndrome(Parameters { m, n, t, omega }, h, hidden, word, out))
+    let s = Setting::whole_code(hidden);
+    wire::outcome_code(words::syndrome(Parameters { m, n, t, omega }, h, &s, word, out))
 }
 
 #[unsafe(no_mangle)]
@@ -58,7 +61,8 @@ pub extern "C" fn zov_encode(
     ensures word_after { word.new ≡ encode_after (code m n t omega) h.now (short_code hidden.now) message.now
         word.old }
 {
-    wire::outcome_code(words::encode(Parameters { m, n, t, omega }, h, hidden, message, word))
+    let s = Setting::whole_code(hidden);
+    wire::outcome_code(words::encode(Parameters { m, n, t, omega }, h, &s, message, word))
 }
 
 #[unsafe(no_mangle)]
@@ -77,5 +81,6 @@ pub extern "C" fn zov_message(
     ensures message_after { message.new ≡ message_after (code m n t omega) h.now (short_code hidden.now) word.now
         message.old }
 {
-    wire::outcome_code(words::message(Parameters { m, n, t, omega }, h, hidden, word, message))
+    let s = Setting::whole_code(hidden);
+    wire::outcome_code(words::message(Parameters { m, n, t, omega }, h, &s, word, message))
 }

@@ -1,7 +1,7 @@
 // Dyadic blocks, and formulas of them.
 ghost use Rattle.std.specs.Prelude.{◌≡◌};
 ghost use Rattle.blocks.specs.Answers.{sum_answer, sum_after, product_answer, product_after, inverse_answer, inverse_after};
-ghost use Rattle.refusals.specs.declared.Outcome.{Outcome};
+ghost use Rattle.refusals.specs.Outcome.{Outcome};
 ghost use Rattle.formula.specs.Letters.{lending};
 ghost use Rattle.formula.specs.Answers.{Answered};
 ghost use Rattle.wire.specs.Wire.{outcome_code};

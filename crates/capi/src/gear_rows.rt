@@ -6,6 +6,7 @@ ghost use Rattle.wire.specs.Wire.{code, outcome_code, reading_code};
 
 use field::Elem;
 use params::Parameters;
+use shortened::Setting;
 
 #[unsafe(no_mangle)]
 pub extern "C" fn zov_write_row(
@@ -22,7 +23,8 @@ pub extern "C" fn zov_write_row(
     ensures value { result ≡ outcome_code (write_answer (code m n t omega) h.now (short_code hidden.now) gear lamp word.old) }
     ensures word_after { word.new ≡ write_after (code m n t omega) h.now (short_code hidden.now) gear lamp word.old }
 {
-    wire::outcome_code(rows::write_row(Parameters { m, n, t, omega }, h, hidden, gear, lamp, word))
+    let s = Setting::whole_code(hidden);
+    wire::outcome_code(rows::write_row(Parameters { m, n, t, omega }, h, &s, gear, lamp, word))
 }
 
 #[unsafe(no_mangle)]
@@ -42,5 +44,6 @@ pub extern "C" fn zov_read_row(
     ensures repaired_after { repaired.new
         ≡ read_after (code m n t omega) h.now (short_code hidden.now) received.now repaired.old }
 {
-    wire::reading_code(rows::read_row(Parameters { m, n, t, omega }, h, hidden, received, repaired))
+    let s = Setting::whole_code(hidden);
+    wire::reading_code(rows::read_row(Parameters { m, n, t, omega }, h, &s, received, repaired))
 }

@@ -6,6 +6,7 @@ ghost use Rattle.wire.specs.Wire.{code, recovery_code};
 
 use field::Elem;
 use params::Parameters;
+use shortened::Setting;
 
 #[unsafe(no_mangle)]
 pub extern "C" fn zov_repair(
@@ -24,11 +25,6 @@ pub extern "C" fn zov_repair(
     ensures repaired_after { repaired.new
         ≡ repair_after (code m n t omega) h.now (short_code hidden.now) received.now repaired.old }
 {
-    wire::recovery_code(repair::repair(
-        Parameters { m, n, t, omega },
-        h,
-        hidden,
-        received,
-        repaired,
-    ))
+    let s = Setting::whole_code(hidden);
+    wire::recovery_code(repair::repair(Parameters { m, n, t, omega }, h, &s, received, repaired))
 }

@@ -8,6 +8,7 @@ ghost use Rattle.wire.specs.Wire.{code, outcome_code, counted_code, recovery_cod
 
 use field::Elem;
 use params::Parameters;
+use shortened::Setting;
 
 #[unsafe(no_mangle)]
 pub extern "C" fn zov_selection_roles(
@@ -30,7 +31,8 @@ pub extern "C" fn zov_selection_roles(
         roles.old }
 {
     let c = Parameters { m, n, t, omega };
-    wire::counted_code(words::selection::roles(c, h, blocks, shifts, hidden, roles))
+    let s = Setting::selection(blocks, shifts, hidden);
+    wire::counted_code(words::roles(c, h, &s, roles))
 }
 
 #[unsafe(no_mangle)]
@@ -55,7 +57,8 @@ pub extern "C" fn zov_selection_syndrome(
         word.now out.old }
 {
     let c = Parameters { m, n, t, omega };
-    wire::outcome_code(words::selection::syndrome(c, h, blocks, shifts, hidden, word, out))
+    let s = Setting::selection(blocks, shifts, hidden);
+    wire::outcome_code(words::syndrome(c, h, &s, word, out))
 }
 
 #[unsafe(no_mangle)]
@@ -80,7 +83,8 @@ pub extern "C" fn zov_selection_encode(
         message.now word.old }
 {
     let c = Parameters { m, n, t, omega };
-    wire::outcome_code(words::selection::encode(c, h, blocks, shifts, hidden, message, word))
+    let s = Setting::selection(blocks, shifts, hidden);
+    wire::outcome_code(words::encode(c, h, &s, message, word))
 }
 
 #[unsafe(no_mangle)]
@@ -105,7 +109,8 @@ pub extern "C" fn zov_selection_message(
         word.now message.old }
 {
     let c = Parameters { m, n, t, omega };
-    wire::outcome_code(words::selection::message(c, h, blocks, shifts, hidden, word, message))
+    let s = Setting::selection(blocks, shifts, hidden);
+    wire::outcome_code(words::message(c, h, &s, word, message))
 }
 
 #[unsafe(no_mangle)]
@@ -130,7 +135,8 @@ pub extern "C" fn zov_selection_repair(
         received.now repaired.old }
 {
     let c = Parameters { m, n, t, omega };
-    wire::recovery_code(repair::selection::repair(c, h, blocks, shifts, hidden, received, repaired))
+    let s = Setting::selection(blocks, shifts, hidden);
+    wire::recovery_code(repair::repair(c, h, &s, received, repaired))
 }
 
 #[unsafe(no_mangle)]
@@ -156,7 +162,8 @@ pub extern "C" fn zov_selection_write_row(
         hidden.now) gear lamp word.old }
 {
     let c = Parameters { m, n, t, omega };
-    wire::outcome_code(rows::selection::write_row(c, h, blocks, shifts, hidden, gear, lamp, word))
+    let s = Setting::selection(blocks, shifts, hidden);
+    wire::outcome_code(rows::write_row(c, h, &s, gear, lamp, word))
 }
 
 #[unsafe(no_mangle)]
@@ -181,5 +188,6 @@ pub extern "C" fn zov_selection_read_row(
         received.now repaired.old }
 {
     let c = Parameters { m, n, t, omega };
-    wire::reading_code(rows::selection::read_row(c, h, blocks, shifts, hidden, received, repaired))
+    let s = Setting::selection(blocks, shifts, hidden);
+    wire::reading_code(rows::read_row(c, h, &s, received, repaired))
 }

@@ -1,11 +1,9 @@
 -- 01's cases marked P, as one table with one proof over its rows. A row has what the public definitions give, computed, and what 01 says.
-use Rattle.std.specs.Prelude.{◌≡◌, Bool, true, ◌&&◌, List, [], ◌∷◌, ℕ, suc, ◌^◌, length}
+use Rattle.std.specs.Prelude.{◌≡◌, Bool, true, ◌&&◌, List, [], ◌∷◌, ℕ, suc, ◌^◌, length, Ok, Err}
 use Rattle.algebra.specs.Tabulate.{tabulate}
-use Rattle.field.specs.declared.Answer.{Answer}
-use Rattle.field.specs.declared.Answer.TheVariants.{Element, Refused as NoElement}
+use Rattle.field.specs.Found.{Answer}
 use Rattle.field.specs.Answers.{product_answer, inverse_answer}
-use Rattle.refusals.specs.declared.Outcome.{Outcome}
-use Rattle.refusals.specs.declared.Outcome.TheVariants.{Done, Refused}
+use Rattle.refusals.specs.Outcome.{Outcome}
 use Rattle.blocks.specs.Answers.{product_answer as blockProductAnswer, product_after as blockProductAfter, inverse_answer as blockInverseAnswer, inverse_after as blockInverseAfter}
 use Rattle.params.specs.declared.Parameters.{Parameters}
 use Rattle.essence.specs.Answers.{essence_answer, essence_after}
@@ -22,12 +20,12 @@ use Rattle.repair.specs.Answers.{repair_answer, repair_after}
 -- ---- answers as lists of numbers: 0 or the refusal's number, then the value and what the lent buffer holds
 
 unfoldable pub element : Answer → List ℕ
-element (Element a) = 0 ∷ a ∷ []
-element (NoElement k) = k ∷ []
+element (Ok a) = 0 ∷ a ∷ []
+element (Err k) = k ∷ []
 
 unfoldable pub outcome : Outcome → List ℕ → List ℕ
-outcome Done buffer = 0 ∷ buffer
-outcome (Refused k) buffer = k ∷ buffer
+outcome (Ok done) buffer = 0 ∷ buffer
+outcome (Err k) buffer = k ∷ buffer
 
 unfoldable pub recovery : Recovery → List ℕ → List ℕ
 recovery (Repaired count) buffer = 0 ∷ count ∷ buffer

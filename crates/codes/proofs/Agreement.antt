@@ -5,7 +5,7 @@ use Rattle.std.proofs.Common.{sym, ◌∙◌, arith}
 use Rattle.std.proofs.Math.Bool.{not-eq-not}
 use Rattle.refusals.specs.Rules.{unless_refused}
 use Rattle.params.specs.declared.Parameters.{Parameters}
-use Rattle.codes.specs.declared.Sameness.TheVariants.{Same, Different, Refused}
+use Rattle.codes.specs.Sameness.{Same, Different, Refused}
 use Rattle.params.specs.Code.{Accepted}
 use Rattle.shortened.specs.Fits.{Fits}
 use Rattle.shortened.specs.Setting.{short_code}

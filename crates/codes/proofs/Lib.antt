@@ -1,4 +1,3 @@
 pub mod Agreement
 pub mod Checked
-pub mod Comparing
 pub mod SameLaws

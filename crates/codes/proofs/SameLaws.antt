@@ -1,12 +1,16 @@
 -- What the test of two codes says.
-use Rattle.std.specs.Prelude.{◌≡◌, ◌↔◌, true, ◌&&◌, List, ℕ}
+use Rattle.std.specs.Prelude.{◌≡◌, ◌↔◌, Bool, true, false, ◌&&◌, List, ℕ, Ok}
+use Rattle.std.proofs.Common.{refl, sym, ap}
+use Rattle.std.specs.Cmp.Lexicographic.{same_text, other_text}
+use lib.Pointwise.{pointwise}
 use Rattle.std.proofs.Math.Dec.{eqb}
 use borrow.Author.Tests.{eqb-true, eq-eqb}
-use Rattle.algebra.specs.Flags.{both_true, both_hold}
+use Rattle.algebra.specs.Flags.{both_true, both_hold, refuted}
 use Rattle.algebra.specs.Lists.{same_list}
 use Rattle.algebra.specs.ListLaws.{same_list_is}
 use Rattle.params.specs.declared.Parameters.{Parameters}
 use Rattle.codes.specs.Agree.{Agree}
+use Rattle.codes.specs.Answers.{compared}
 use Rattle.codes.specs.Same.{same_code}
 
 module _ (c₁ : Parameters) (h₁ hidden₁ : List ℕ) (c₂ : Parameters) (h₂ hidden₂ : List ℕ) where
@@ -37,3 +41,21 @@ module _ (c₁ : Parameters) (h₁ hidden₁ : List ℕ) (c₂ : Parameters) (h�
             let numbers = both_hold shape (eq-eqb c₁.omega c₂.omega e.ω_same) in
             both_hold (both_hold numbers ((same_list_is h₁ h₂).1 e.h_same)) ((same_list_is hidden₁ hidden₂).1 e.marks_same),
       )
+
+-- `==` on slices is that test of two lists
+pub lists_compared : (a b : List ℕ) {same : Bool} → same ≡ pointwise eqb a b → same ≡ same_list a b
+lists_compared a b {same = true} e = sym ((same_list_is a b).1 (same_text a b e))
+lists_compared a b {same = false} e = sym (refuted (same_list a b) (λ t. other_text a b e ((same_list_is a b).0 t)))
+
+-- and `==` on the numbers of a code compares one after another
+pub numbers_compared : (m n t ω : Bool) → (m && (n && (t && ω))) ≡ (m && n && t && ω)
+numbers_compared false n t ω = refl
+numbers_compared true false t ω = refl
+numbers_compared true true false ω = refl
+numbers_compared true true true ω = refl
+
+-- the answer about two codes that are accepted
+pub compared_is : {b same : Bool} → b ≡ same → Ok b ≡ compared same
+unfolding compared
+compared_is {b = true} e = ap compared e
+compared_is {b = false} e = ap compared e

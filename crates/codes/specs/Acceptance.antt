@@ -15,7 +15,7 @@ use Rattle.field.proofs.GfLaws.{gf_laws}
 use Rattle.refusals.specs.Answered.{done_none}
 use Rattle.refusals.specs.Rules.{unless_refused}
 use Rattle.refusals.specs.RuleLaws.{given}
-use Rattle.refusals.specs.declared.Outcome.TheVariants.{Done, Refused}
+use Rattle.refusals.specs.Outcome.{Done, Refused}
 use Rattle.params.specs.declared.Parameters.{Parameters}
 use Rattle.signature.specs.Signature.{Cauchy, HasCauchy, root_at, support_at}
 use Rattle.signature.specs.Existence.{pair_conditions}

@@ -3,11 +3,11 @@ use Rattle.std.specs.Prelude.{Bool, true, false, ◌&&◌, List, ℕ, zero, suc,
 use Rattle.algebra.specs.Tabulate.{tabulate}
 use Rattle.field.specs.Gf.{gf}
 use Rattle.refusals.specs.Rules.{Rule, fault, unless_refused}
-use Rattle.refusals.specs.declared.Outcome.{Outcome}
-use Rattle.refusals.specs.declared.Outcome.TheVariants.{Done, Refused}
+use Rattle.refusals.specs.Outcome.{Outcome}
+use Rattle.refusals.specs.Outcome.{Done, Refused}
 use Rattle.params.specs.declared.Parameters.{Parameters}
-use Rattle.codes.specs.declared.Sameness.{Sameness}
-use Rattle.codes.specs.declared.Sameness.TheVariants.{Same, Different, Refused as NotCompared}
+use Rattle.codes.specs.Sameness.{Sameness}
+use Rattle.codes.specs.Sameness.{Same, Different, Refused as NotCompared}
 use Rattle.signature.specs.Signature.{root_at, support_at}
 use Rattle.algebra.specs.Lists.{entry_of}
 use Rattle.shortened.specs.Setting.{short_code, setting_rules}

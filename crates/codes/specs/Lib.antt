@@ -1,4 +1,5 @@
 pub mod Same
+pub mod Sameness
 pub mod Agree
 pub mod Answers
 pub mod Lowest

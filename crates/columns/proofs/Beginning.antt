@@ -8,7 +8,7 @@ use native.Mathlib.Nat.{div-le_self}
 use native.Mathlib.Omega.{arith}
 use lib.ListN.{length, take}
 use Rattle.algebra.specs.Tabulate.{tabulate}
-use Rattle.refusals.specs.declared.Counted.TheVariants.{Count, Refused}
+use Rattle.refusals.specs.Counted.{Count, Refused}
 use Rattle.refusals.specs.Rules.{fault}
 use Rattle.refusals.specs.RuleLaws.{fault_first, fault_rest, refuse, accept}
 use Rattle.slices.specs.Lengths.{longest}

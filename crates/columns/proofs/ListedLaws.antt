@@ -2,8 +2,8 @@
 -- code.
 use Rattle.std.specs.Prelude.{◌≡◌, refl, ◌≢◌, Bool, true, List, ◌++◌, ℕ, zero, suc, length, take}
 use Rattle.std.proofs.Common.{sym, ap, ◌∙◌, subst}
-use Rattle.refusals.specs.declared.Counted.{Counted}
-use Rattle.refusals.specs.declared.Counted.TheVariants.{Count, Refused}
+use Rattle.refusals.specs.Counted.{Counted}
+use Rattle.refusals.specs.Counted.{Count, Refused}
 use Rattle.refusals.specs.Answered.{refused_due, counted_apart, same_counted}
 use Rattle.refusals.specs.Ending.{first_refuses, second_decides}
 use Rattle.refusals.specs.Rules.{Rule, fault, unless_refused}

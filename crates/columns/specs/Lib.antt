@@ -1,4 +1,5 @@
 pub mod Choice
+pub mod Lent
 pub mod Fits
 pub mod Listed
 pub mod ShiftedSignature

@@ -1,7 +1,7 @@
 -- How the columns of all places are found, for the parts of a call: the number that is due, or the number of places with the columns.
 use Rattle.std.specs.Prelude.{◌≡◌, Bool, List, ℕ, ◌*◌, ◌<◌, length, take}
-use Rattle.refusals.specs.declared.Counted.{Counted}
-use Rattle.refusals.specs.declared.Counted.TheVariants.{Count, Refused}
+use Rattle.refusals.specs.Counted.{Counted}
+use Rattle.refusals.specs.Counted.{Count, Refused}
 use Rattle.refusals.specs.Rules.{fault, unless_refused}
 use Rattle.slices.specs.Lengths.{longest}
 use Rattle.params.specs.declared.Parameters.{Parameters}
@@ -11,15 +11,6 @@ use Rattle.columns.specs.Choice.{Choice, selected_column, all_places, all_column
 pub record Listed (c : Parameters) (h : List ℕ) (s : Choice) (others full : Bool) (columns : List ℕ) (found : Counted) : Type 0 where
   pub answer : found ≡ unless_refused (fault (choice_rules c h s others full)) Refused (Count (all_places c s))
   pub numbered : fault (choice_rules c h s others full) ≡ 0 → take (all_places c s) columns ≡ all_columns c s
-
--- The same for some choice, where `full` tests the lengths of what has an entry for each place.
-pub record ListedSome (c : Parameters) (h : List ℕ) (others : Bool) (full : ℕ → Bool) (columns : List ℕ) (found : Counted) : Type 0 where
-  pub at : Choice
-  pub listed : Listed c h at others (full (all_places c at)) columns found
-
--- what holds for every choice for which they can have been found so
-abbrev pub WhateverListed : Parameters → List ℕ → Bool → (ℕ → Bool) → List ℕ → Counted → (Choice → Type 0) → Type 0
-WhateverListed c h others full columns found P = (s : Choice) → Listed c h s others (full (all_places c s)) columns found → P s
 
 -- a selection whose columns can be numbered
 pub record Selecting (t : ℕ) (blocks shifts : List ℕ) : Type 0 where

@@ -1,28 +1,37 @@
 // Which columns of a code the places of a word stand for: those of the whole code, or of a selection of its blocks. A call on words begins here: the
 // code is tested, and what is lent, and the columns are numbered.
-//
-// The functions that begin a call answer the number of all_places, with as many columns at the front of `columns`, or the number that refuses
-// the call.
 #![tactic(auto)]
 
 ghost use Rattle.std.specs.Prelude.{◌≡◌, ℕ, ◌+◌, ◌*◌, ◌≤◌, ◌<◌, ◌/◌, eqb, length, take};
 ghost use Rattle.algebra.specs.Distinct.{distinct};
 ghost use Rattle.algebra.specs.Tabulate.{tabulate};
 ghost use Rattle.algebra.specs.Xor.{◌⊕◌};
+ghost use Rattle.refusals.specs.Outcome.{tested};
 ghost use Rattle.refusals.specs.Rules.{fault};
-ghost use Rattle.refusals.specs.declared.Counted.TheVariants.{Count};
+ghost use Rattle.refusals.specs.Counted.{Count};
 ghost use Rattle.slices.specs.Lengths.{longest};
 ghost use Rattle.signature.specs.Inverses.{Inverted};
 ghost use Rattle.parity.specs.Word.{whole};
-ghost use Rattle.columns.specs.Choice.{Choice.whole_code, Choice.selection, selected_column, all_below, selection_rules};
+ghost use Rattle.columns.specs.Choice.{Choice.whole_code, Choice.selection, selected_column, all_places, all_below, selection_rules};
+ghost use Rattle.columns.specs.Lent.{choice_of};
 ghost use Rattle.columns.specs.Fits.{Below};
 ghost use Rattle.columns.specs.Listed.{Listed, Selecting};
 
 use basis::Column;
 use field::Elem;
-use params::{Parameters, code_fault_inverses};
-use refusals::Counted;
+use params::{Parameters, check_code};
+use refusals::{Refusal, Rule};
 use slices::LONGEST;
+
+// Which columns of a code the places stand for: all of them in their order, or those of some of its blocks, with a shift for each.
+#[derive(Clone, Copy)]
+pub enum Choice<'a> {
+    WholeCode,
+    Selection {
+        blocks: &'a [u32],
+        shifts: &'a [u32],
+    },
+}
 
 // Whether what is lent to a call has its length: what has an entry for each place, hidden or sent, and others, whose lengths the code alone tells.
 #[derive(Clone, Copy)]
@@ -36,44 +45,76 @@ pub fn number_columns(n: usize, columns: &mut [Column])
     requires { (n ≤ length columns.old) × (n ≤ longest) }
     ensures { take n columns.new ≡ whole n }
 {
+    // By index: the index itself is stored.
     for j in 0..n {
         columns[j] = j as Column;
     }
 }
 
-// The columns of the whole code. Where the call is not refused `inverses` begins with the inverses of the signature's entries.
-pub fn whole_columns(
+// Whether this is the length of so many parts, each as long: of the marks of a selection's places, or of several words. A product that is too
+// large for a usize is no length.
+pub fn is_parts_length(long: usize, parts: usize, each: usize) -> bool
+    ensures { result ≡ eqb long (parts * each) }
+{
+    parts.checked_mul(each) == Some(long)
+}
+
+// Whether what is so long has an entry for each place of the chosen columns.
+pub fn is_all_places(c: Parameters, choice: Choice<'_>, long: usize) -> bool
+    ensures { result ≡ eqb long (all_places c (choice_of choice.entry)) }
+{
+    match choice {
+        Choice::WholeCode => long == c.n as usize,
+        Choice::Selection { blocks, shifts: _ } => is_parts_length(
+            long,
+            blocks.len(),
+            c.t as usize,
+        ),
+    }
+}
+
+// Begins a call: the code is tested, and what is lent, and the chosen columns are numbered, at the front of `columns`; gives how many they are. Where
+// the call is not refused `inverses` begins with the inverses of the signature's entries.
+pub fn choose_columns(
+    c: Parameters,
+    h: &[Elem],
+    choice: Choice<'_>,
+    lent: Lengths,
+    inverses: &mut [Elem],
+    columns: &mut [Column],
+) -> Result<usize, Refusal>
+    requires { (longest ≤ length inverses.old) × (longest ≤ length columns.old) }
+    ensures listed { Listed c h.now (choice_of choice.entry) lent.others lent.places columns.new result }
+    ensures by_index { (k : ℕ) → result ≡ Count k → Inverted c.m h.now inverses.new }
+{
+    match choice {
+        Choice::WholeCode => whole_columns(c, h, lent, inverses, columns),
+        Choice::Selection { blocks, shifts } => {
+            selected_columns(c, h, blocks, shifts, lent, inverses, columns)
+        }
+    }
+}
+
+// The columns of the whole code.
+fn whole_columns(
     c: Parameters,
     h: &[Elem],
     lent: Lengths,
     inverses: &mut [Elem],
     columns: &mut [Column],
-) -> Counted
+) -> Result<usize, Refusal>
     requires { (longest ≤ length inverses.old) × (longest ≤ length columns.old) }
     ensures listed { Listed c h.now whole_code lent.others lent.places columns.new result }
     ensures by_index { (k : ℕ) → result ≡ Count k → Inverted c.m h.now inverses.new }
 {
-    let number = code_fault_inverses(c, h, lent.others & lent.places, inverses);
-    if number != 0 {
-        return Counted::Refused(number);
-    }
-    number_columns(c.n as usize, columns);
-    Counted::Count(c.n)
+    check_code(c, h, lent.others & lent.places, inverses)?;
+    let n = c.n as usize;
+    number_columns(n, columns);
+    Ok(n)
 }
 
-// Whether this is the length of so many parts, each as long: of the marks of a selection's places, or of several words. The product may be too large
-// for a usize, so it is the length that is divided.
-pub fn is_parts_length(long: usize, parts: usize, each: usize) -> bool
-    ensures { result ≡ eqb long (parts * each) }
-{
-    if each == 0 {
-        return long == 0;
-    }
-    (long / each == parts) & (long % each == 0)
-}
-
-// The columns of a selection, and the same inverses.
-pub fn selected_columns(
+// The columns of a selection.
+fn selected_columns(
     c: Parameters,
     h: &[Elem],
     blocks: &[u32],
@@ -81,56 +122,45 @@ pub fn selected_columns(
     lent: Lengths,
     inverses: &mut [Elem],
     columns: &mut [Column],
-) -> Counted
+) -> Result<usize, Refusal>
     requires { (longest ≤ length inverses.old) × (longest ≤ length columns.old) }
     ensures listed { Listed c h.now (selection blocks.now shifts.now) lent.others lent.places columns.new result }
     ensures by_index { (k : ℕ) → result ≡ Count k → Inverted c.m h.now inverses.new }
 {
-    let number = code_fault_inverses(c, h, lent.others, inverses);
-    if number != 0 {
-        return Counted::Refused(number);
-    }
-    let number = selection_fault(c, blocks, shifts, lent.places);
-    if number != 0 {
-        return Counted::Refused(number);
-    }
+    check_code(c, h, lent.others, inverses)?;
+    check_selection(c, blocks, shifts, lent.places)?;
     let t = c.t as usize;
     select_columns(t, blocks, shifts, columns);
-    Counted::Count((blocks.len() * t) as u32)
+    Ok(blocks.len() * t)
 }
 
-// The number for a selection of an accepted code, where `full` says whether what has an entry for each place has its length.
-fn selection_fault(c: Parameters, blocks: &[u32], shifts: &[u32], full: bool) -> u32
+// Whether a selection of an accepted code keeps its rules, where `full` says whether what has an entry for each place has its length.
+fn check_selection(c: Parameters, blocks: &[u32], shifts: &[u32], full: bool) -> Result<(), Refusal>
     requires { (0 < c.t) × (c.n / c.t ≤ longest) }
-    ensures { result ≡ fault (selection_rules c blocks.now shifts.now full) }
+    ensures { result ≡ tested (fault (selection_rules c blocks.now shifts.now full)) }
 {
     let count = c.n / c.t;
     let long = blocks.len();
     if !((1 <= long) & (long <= count as usize) & (shifts.len() == long) & full) {
-        return refusals::LENGTH;
+        return Err(Refusal(Rule::Length));
     }
     if !all_below(count, blocks) {
-        return refusals::NO_SUCH_BLOCK;
+        return Err(Refusal(Rule::NoSuchBlock));
     }
     if !named_once(blocks) {
-        return refusals::NO_SUCH_BLOCK;
+        return Err(Refusal(Rule::NoSuchBlock));
     }
     if !all_below(c.t, shifts) {
-        return refusals::SHIFT;
+        return Err(Refusal(Rule::Shift));
     }
-    0
+    Ok(())
 }
 
 // Whether every number is below the bound.
 fn all_below(bound: u32, numbers: &[u32]) -> bool
     ensures { result ≡ all_below bound numbers.now }
 {
-    for i in 0..numbers.len() {
-        if bound <= numbers[i] {
-            return false;
-        }
-    }
-    true
+    numbers.iter().all(|x| *x < bound)
 }
 
 // Whether no block is named twice, of blocks below LONGEST.
@@ -139,8 +169,8 @@ fn named_once(blocks: &[u32]) -> bool
     ensures { result ≡ distinct blocks.now }
 {
     let mut named: [bool; LONGEST] = [false; LONGEST];
-    for b in 0..blocks.len() {
-        let block = blocks[b] as usize;
+    for number in blocks {
+        let block = *number as usize;
         if named[block] {
             return false;
         }
@@ -163,6 +193,7 @@ fn select_columns(t: usize, blocks: &[u32], shifts: &[u32], columns: &mut [Colum
     ensures { take (length blocks.now * t) columns.new
         ≡ tabulate (length blocks.now * t) (selected_column t blocks.now shifts.now) }
 {
+    // By index: block and row are told from the place.
     for j in 0..blocks.len() * t {
         let b = j / t;
         columns[j] = column_of(t, blocks[b], shifts[b], j % t);

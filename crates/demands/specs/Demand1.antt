@@ -26,11 +26,11 @@ use Rattle.algebra.specs.Lists.{entry_of}
 use Rattle.algebra.specs.Xor.{◌⊕◌}
 use Rattle.refusals.specs.Answered.{value_or-refused, value_none, refused_leaves, refused_due, holds_given, done_apart, same_outcome}
 use Rattle.refusals.specs.Answered.{counted_apart, same_counted}
-use Rattle.refusals.specs.declared.Counted.TheVariants.{Count, Refused as NotCounted}
-use Rattle.refusals.specs.declared.Outcome.TheVariants.{Done, Refused}
+use Rattle.refusals.specs.Counted.{Count, Refused as NotCounted}
+use Rattle.refusals.specs.Outcome.{Done, Refused}
 use Rattle.refusals.specs.Rules.{Rule, ◌unless◌, Hold, fault, unless_refused}
 use Rattle.refusals.specs.RuleLaws.{fault_none, hold, given}
-use Rattle.field.specs.declared.Answer.TheVariants.{Element, Refused as NoElement}
+use Rattle.field.specs.Found.{Element, Refused as NoElement}
 use Rattle.field.specs.Answers.{element_rules, element_fault, pair_fault, sum_answer, product_answer, inverse_answer}
 use Rattle.field.specs.Product.{product, inverse}
 use Rattle.field.specs.Range.{is_element}
@@ -47,8 +47,8 @@ use Rattle.params.specs.Code.{shape_rules, code_rules}
 use Rattle.signature.specs.Tests.{signature_rules}
 use Rattle.essence.specs.Answers.{shape_rules as essenceShapeRules, essence_rules, essence_fault, essence_answer, essence_after}
 use Rattle.essence.specs.Answers.{value_rules, signature_fault, signature_answer, signature_after}
-use Rattle.codes.specs.declared.Sameness.{Sameness}
-use Rattle.codes.specs.declared.Sameness.TheVariants.{Refused as NotCompared}
+use Rattle.codes.specs.Sameness.{Sameness}
+use Rattle.codes.specs.Sameness.{Refused as NotCompared}
 use Rattle.codes.specs.Answers.{check_fault, check_answer, roots_after, support_after, lowest as lower, compared, same_fault, same_answer}
 use Rattle.codes.specs.Lowest.{lowest_none, lowest_is}
 use Rattle.codes.specs.Same.{same_code}

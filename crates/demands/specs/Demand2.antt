@@ -13,7 +13,7 @@ use borrow.Author.Tests.{eq-eqb, not-true}
 use Rattle.algebra.specs.Lists.{entry_of}
 use Rattle.algebra.specs.TabulateLaws.{get_d_tabulate}
 use Rattle.refusals.specs.Answered.{done_none}
-use Rattle.refusals.specs.declared.Outcome.TheVariants.{Done, Refused}
+use Rattle.refusals.specs.Outcome.{Done, Refused}
 use Rattle.refusals.specs.RuleLaws.{fault_none, hold, given}
 use Rattle.field.specs.Gf.{Width, gf}
 use Rattle.field.proofs.GfLaws.{gf_laws}

@@ -13,7 +13,7 @@ use borrow.Author.Tests.{leb-true, not-true, not-false}
 use Rattle.algebra.specs.Flags.{both_true}
 use Rattle.algebra.specs.Lists.{entry_of}
 use Rattle.algebra.specs.Xor.{◌⊕◌}
-use Rattle.refusals.specs.declared.Outcome.TheVariants.{Done, Refused}
+use Rattle.refusals.specs.Outcome.{Done, Refused}
 use Rattle.refusals.specs.Answered.{done_none}
 use Rattle.refusals.specs.Rules.{Hold}
 use Rattle.refusals.specs.RuleLaws.{given}

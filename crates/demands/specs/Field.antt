@@ -4,7 +4,7 @@ use Rattle.std.specs.Prelude.{◌≡◌, ◌≢◌, ◌↔◌, ℕ, ◌+◌, ◌
 use Rattle.std.proofs.Common.{sym, ap, ◌∙◌, subst, lt_of_lt_of_le, lit<, pow_mono}
 use Rattle.algebra.specs.FieldLaws.{inv_unique}
 use Rattle.algebra.specs.Xor.{◌⊕◌}
-use Rattle.field.specs.declared.Answer.TheVariants.{Element}
+use Rattle.field.specs.Found.{Element}
 use Rattle.field.specs.Answers.{element_rules, product_answer, inverse_answer}
 use Rattle.field.specs.Division.{quotient, product_divides, product_only}
 use Rattle.field.specs.Gf.{Width, gf}

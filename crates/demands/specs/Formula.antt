@@ -8,8 +8,8 @@ use Rattle.std.proofs.Math.Bool.{not, true≢false}
 use mathlib.Core.List.{List}
 use Prim.Native.Nat.{ℕ, suc, ◌^◌, ◌<◌, ◌≤◌}
 use Rattle.std.proofs.Math.Decide.{ℕ_discrete}
-use Rattle.refusals.specs.declared.Outcome.{Outcome}
-use Rattle.refusals.specs.declared.Outcome.TheVariants.{Done, Refused}
+use Rattle.refusals.specs.Outcome.{Outcome}
+use Rattle.refusals.specs.Outcome.{Done, Refused}
 use Rattle.refusals.specs.Rules.{Rule, Hold, fault, unless_refused}
 use Rattle.refusals.specs.RuleLaws.{fault_here, fault_past, fault_empty, fault_none, fault_first, fault_rest, given, hold}
 use Rattle.refusals.specs.Answered.{done_none, refused_due, done_apart, same_outcome}

@@ -13,11 +13,11 @@ use Rattle.algebra.specs.PlaceLaws.{count-le}
 use Rattle.algebra.specs.Xor.{◌⊕◌}
 use Rattle.algebra.specs.XorLaws.{⊕-lt}
 use Rattle.refusals.specs.Answered.{value_none, refused_due, done_apart, same_outcome, counted_apart, same_counted}
-use Rattle.refusals.specs.declared.Counted.TheVariants.{Count, Refused as NotCounted}
-use Rattle.refusals.specs.declared.Outcome.TheVariants.{Done, Refused}
+use Rattle.refusals.specs.Counted.{Count, Refused as NotCounted}
+use Rattle.refusals.specs.Outcome.{Done, Refused}
 use Rattle.refusals.specs.Rules.{Rule, ◌unless◌, fault, unless_refused}
 use Rattle.refusals.specs.RuleLaws.{first_holds, hold}
-use Rattle.field.specs.declared.Answer.TheVariants.{Element, Refused as NoElement}
+use Rattle.field.specs.Found.{Element, Refused as NoElement}
 use Rattle.field.specs.Answers.{element_rules, element_fault, pair_fault, sum_answer, product_answer, inverse_answer}
 use Rattle.field.proofs.GfLaws.{gf_is_field, gf_laws}
 use Rattle.field.specs.Product.{product, inverse}
@@ -37,7 +37,7 @@ use Rattle.params.proofs.Accepted.{n_short}
 use Rattle.params.specs.Code.{Accepted, shape_rules, code_rules}
 use Rattle.essence.specs.Answers.{shape_rules as essenceShapeRules, essence_rules, essence_fault, essence_answer}
 use Rattle.essence.specs.Answers.{value_rules, signature_fault, signature_answer}
-use Rattle.codes.specs.declared.Sameness.TheVariants.{Refused as NotCompared}
+use Rattle.codes.specs.Sameness.{Refused as NotCompared}
 use Rattle.codes.specs.Answers.{check_fault, check_answer, lowest, compared, card_rules, same_fault, same_answer}
 use Rattle.codes.specs.Lowest.{lowest-le}
 use Rattle.codes.specs.Same.{same_code}

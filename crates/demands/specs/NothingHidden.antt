@@ -12,8 +12,8 @@ use Rattle.std.proofs.Math.ListN.{set, replicate}
 use Rattle.algebra.specs.Parts.{with_part}
 use Rattle.algebra.specs.Tabulate.{tabulate}
 use Rattle.algebra.specs.TabulateLaws.{length-tabulate}
-use Rattle.refusals.specs.declared.Counted.TheVariants.{Count, Refused as NotCounted}
-use Rattle.refusals.specs.declared.Outcome.TheVariants.{Done, Refused}
+use Rattle.refusals.specs.Counted.{Count, Refused as NotCounted}
+use Rattle.refusals.specs.Outcome.{Done, Refused}
 use Rattle.refusals.specs.Rules.{Rule, ◌unless◌, fault, unless_refused}
 use Rattle.refusals.specs.RuleLaws.{fault_alike, fault_past, fault_empty}
 use Rattle.slices.specs.Bits.{all_bits}
@@ -28,7 +28,7 @@ use Rattle.shortened.proofs.NothingHidden.{unhidden-places, unhidden_columns, un
 use Rattle.shortened.specs.Setting.{Setting, places, columns_of, setting_rules}
 use Rattle.shortened.proofs.SettingLaws.{marks_pass}
 use Rattle.shortened.specs.Unhidden.{unhidden}
-use Rattle.codes.specs.declared.Sameness.TheVariants.{Same}
+use Rattle.codes.specs.Sameness.{Same}
 use Rattle.codes.proofs.Agreement.{same_exactly}
 use Rattle.codes.specs.Answers.{check_fault, lowest, same_fault, same_answer}
 use Rattle.messages.specs.MessageRules.{message_rules}

@@ -9,14 +9,14 @@ use Rattle.algebra.specs.Lists.{entry_of}
 use Rattle.algebra.specs.Xor.{◌⊕◌}
 use Rattle.field.specs.Gf.{gf}
 use Rattle.field.proofs.GfLaws.{gf_laws}
-use Rattle.refusals.specs.declared.Outcome.TheVariants.{Done, Refused}
+use Rattle.refusals.specs.Outcome.{Done, Refused}
 use Rattle.refusals.specs.Rules.{unless_refused}
 use Rattle.signature.specs.Offsets.{roots_apart, support_apart}
 use Rattle.signature.specs.Signature.{root_at, support_at}
 use Rattle.params.specs.declared.Parameters.{Parameters}
 use Rattle.params.proofs.Accepted.{with_offset_lem}
 use Rattle.params.specs.Code.{Accepted, with_offset}
-use Rattle.codes.specs.declared.Sameness.TheVariants.{Same, Different}
+use Rattle.codes.specs.Sameness.{Same, Different}
 use Rattle.codes.specs.Acceptance.{accepted_done, done_root, done_support, done_pair}
 use Rattle.codes.specs.Agree.{Agree}
 use Rattle.codes.proofs.Agreement.{same_exactly, different}

@@ -1,8 +1,8 @@
 -- The answers of the calls: values are no refusals, and refusals tell their numbers. Those of `refusals` and of `rows` stand there.
 use Rattle.std.specs.Prelude.{◌≡◌, ◌≢◌, Bool, true, false, ℕ}
 use Rattle.std.proofs.Common.{arith}
-use Rattle.field.specs.declared.Answer.TheVariants.{Element, Refused as NoElement}
-use Rattle.codes.specs.declared.Sameness.TheVariants.{Refused as NotCompared}
+use Rattle.field.specs.Found.{Element, Refused as NoElement}
+use Rattle.codes.specs.Sameness.{Refused as NotCompared}
 use Rattle.codes.specs.Answers.{compared}
 use Rattle.repair.specs.declared.Recovery.TheVariants.{Repaired, Refused as NotRepaired}
 

@@ -16,7 +16,7 @@ use Rattle.algebra.specs.Lists.{entry_of}
 use Rattle.algebra.specs.Parts.{part}
 use Rattle.algebra.specs.TabulateLaws.{length-tabulate}
 use Rattle.refusals.specs.Answered.{done_none, refused_due, done_apart, same_outcome}
-use Rattle.refusals.specs.declared.Outcome.TheVariants.{Done, Refused}
+use Rattle.refusals.specs.Outcome.{Done, Refused}
 use Rattle.refusals.specs.Rules.{fault}
 use Rattle.refusals.specs.RuleLaws.{hold, fault_none, fault_first, given}
 use Rattle.slices.specs.Bits.{all_bits}

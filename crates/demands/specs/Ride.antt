@@ -17,8 +17,8 @@ use Rattle.algebra.specs.Places.{count}
 use Rattle.algebra.specs.Tabulate.{tabulate}
 use Rattle.algebra.specs.TabulateLaws.{length-tabulate}
 use Rattle.refusals.specs.Answered.{refused_due, done_apart, same_outcome}
-use Rattle.refusals.specs.declared.Outcome.{Outcome}
-use Rattle.refusals.specs.declared.Outcome.TheVariants.{Done, Refused}
+use Rattle.refusals.specs.Outcome.{Outcome}
+use Rattle.refusals.specs.Outcome.{Done, Refused}
 use Rattle.refusals.specs.Rules.{Rule, ◌unless◌, fault}
 use Rattle.refusals.specs.RuleLaws.{fault_here, fault_past, fault_none, fault_first, fault_rest, first_holds, hold, numbered_both}
 use Rattle.refusals.specs.RuleLaws.{refuse, given}

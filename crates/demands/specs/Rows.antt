@@ -9,7 +9,7 @@ use Rattle.algebra.specs.Flags.{both_true, both_hold, refuted}
 use Rattle.algebra.specs.Lists.{entry_of}
 use Rattle.algebra.specs.PlaceLaws.{length-chosen}
 use Rattle.refusals.specs.Answered.{done_apart}
-use Rattle.refusals.specs.declared.Outcome.TheVariants.{Done, Refused as NotWritten}
+use Rattle.refusals.specs.Outcome.{Done, Refused as NotWritten}
 use Rattle.refusals.specs.Rules.{◌unless◌, fault}
 use Rattle.refusals.specs.RuleLaws.{fault_here, fault_past, fault_empty, refuse, given}
 use Rattle.slices.specs.Bits.{Bits, IsBits}

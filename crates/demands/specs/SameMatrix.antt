@@ -16,8 +16,8 @@ use Rattle.algebra.specs.Lists.{entry_of}
 use Rattle.algebra.specs.Parts.{part, with_part, joined}
 use Rattle.algebra.specs.Places.{count}
 use Rattle.algebra.specs.Tabulate.{tabulate}
-use Rattle.refusals.specs.declared.Counted.TheVariants.{Count, Refused as NotCounted}
-use Rattle.refusals.specs.declared.Outcome.TheVariants.{Done, Refused}
+use Rattle.refusals.specs.Counted.{Count, Refused as NotCounted}
+use Rattle.refusals.specs.Outcome.{Done, Refused}
 use Rattle.refusals.specs.Rules.{Rule, ◌unless◌, fault, unless_refused}
 use Rattle.refusals.specs.RuleLaws.{fault_alike, answer_alike, first_holds}
 use Rattle.slices.specs.Bits.{all_bits}

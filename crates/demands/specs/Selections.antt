@@ -10,8 +10,8 @@ use Rattle.algebra.specs.DistinctLaws.{distinct_is, repeated}
 use Rattle.algebra.specs.Flags.{both_hold}
 use Rattle.algebra.specs.Lists.{entry_of}
 use Rattle.refusals.specs.Answered.{refused_due, done_apart, same_outcome, counted_apart, same_counted}
-use Rattle.refusals.specs.declared.Counted.TheVariants.{Refused as NotCounted}
-use Rattle.refusals.specs.declared.Outcome.TheVariants.{Done, Refused}
+use Rattle.refusals.specs.Counted.{Refused as NotCounted}
+use Rattle.refusals.specs.Outcome.{Done, Refused}
 use Rattle.refusals.specs.Rules.{Rule, ◌unless◌, fault, unless_refused}
 use Rattle.refusals.specs.RuleLaws.{fault_here, fault_past, refuse}
 use Rattle.slices.specs.Bits.{all_bits}

@@ -13,7 +13,7 @@ use Rattle.algebra.specs.Lists.{entry_of}
 use Rattle.algebra.specs.Parts.{part}
 use Rattle.algebra.specs.PartLaws.{part_room, length_part}
 use Rattle.refusals.specs.Answered.{done_none}
-use Rattle.refusals.specs.declared.Outcome.TheVariants.{Done}
+use Rattle.refusals.specs.Outcome.{Done}
 use Rattle.refusals.specs.Rules.{unless_refused}
 use Rattle.params.specs.declared.Parameters.{Parameters}
 use Rattle.params.specs.Code.{Accepted}

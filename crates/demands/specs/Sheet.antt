@@ -13,7 +13,7 @@ use Rattle.algebra.specs.Flags.{refuted}
 use Rattle.algebra.specs.Lists.{entry_of}
 use Rattle.algebra.specs.TabulateLaws.{get_d_tabulate}
 use Rattle.refusals.specs.Answered.{counted_apart, same_counted, refused_due}
-use Rattle.refusals.specs.declared.Counted.TheVariants.{Count, Refused}
+use Rattle.refusals.specs.Counted.{Count, Refused}
 use Rattle.refusals.specs.Rules.{fault}
 use Rattle.refusals.specs.RuleLaws.{fault_here, fault_past, fault_empty, refuse, given}
 use Rattle.field.specs.Gf.{gf}

@@ -17,7 +17,7 @@ use Rattle.algebra.specs.Places.{count}
 use Rattle.algebra.specs.PlaceLaws.{count_tests}
 use Rattle.algebra.specs.Subsequence.{count_chosen}
 use Rattle.algebra.specs.TabulateLaws.{get_d_tabulate, length-tabulate}
-use Rattle.refusals.specs.declared.Outcome.TheVariants.{Done}
+use Rattle.refusals.specs.Outcome.{Done}
 use Rattle.slices.specs.Bits.{Bits, IsBits}
 use Rattle.params.specs.declared.Parameters.{Parameters}
 use Rattle.params.specs.Code.{Accepted}

@@ -8,11 +8,11 @@ use Rattle.algebra.specs.AllLaws.{all-false, all_fails}
 use Rattle.algebra.specs.Distinct.{distinct}
 use Rattle.algebra.specs.Lists.{entry_of}
 use Rattle.refusals.specs.Answered.{refused_due, done_apart, same_outcome}
-use Rattle.refusals.specs.declared.Outcome.{Outcome}
-use Rattle.refusals.specs.declared.Outcome.TheVariants.{Done, Refused}
+use Rattle.refusals.specs.Outcome.{Outcome}
+use Rattle.refusals.specs.Outcome.{Done, Refused}
 use Rattle.refusals.specs.RuleLaws.{refuse}
 use Rattle.refusals.specs.Rules.{Rule, ◌unless◌, Hold, fault, numbered, unless_refused}
-use Rattle.field.specs.declared.Answer.TheVariants.{Refused as NoElement}
+use Rattle.field.specs.Found.{Refused as NoElement}
 use Rattle.field.specs.Answers.{element_rules, sum_answer, product_answer, inverse_answer}
 use Rattle.field.specs.Gf.{gf}
 use Rattle.dyadic.specs.Block.{total}

@@ -1,6 +1,6 @@
 pub mod Adding
-pub mod Folding
 pub mod Halving
 pub mod Inverse
 pub mod Laws
 pub mod Stages
+pub mod Sums

@@ -19,8 +19,18 @@ pub fn sum(a: &[Elem], b: &[Elem], out: &mut [Elem])
     requires { (length b.now ≡ length a.now) × (length out.old ≡ length a.now) }
     ensures { (m : ℕ) → out.new ≡ block_sum (gf m) a.now b.now }
 {
-    for i in 0..a.len() {
-        out[i] = a[i] ^ b[i];
+    for (i, entry) in out.iter_mut().enumerate() {
+        *entry = a[i] ^ b[i];
+    }
+}
+
+// Adds a block to another in its place, which is the same at every width.
+pub fn add(value: &mut [Elem], other: &[Elem])
+    requires { length other.now ≡ length value.old }
+    ensures { (m : ℕ) → value.new ≡ block_sum (gf m) value.old other.now }
+{
+    for (i, entry) in value.iter_mut().enumerate() {
+        *entry ^= other[i];
     }
 }
 
@@ -28,11 +38,7 @@ pub fn sum(a: &[Elem], b: &[Elem], out: &mut [Elem])
 pub fn total(a: &[Elem]) -> Elem
     ensures { (m : ℕ) → result ≡ total (gf m) a.now }
 {
-    let mut sum: Elem = 0;
-    for i in 0..a.len() {
-        sum ^= a[i];
-    }
-    sum
+    a.iter().fold(0, |sum, x| sum ^ *x)
 }
 
 // Every entry divided by c.
@@ -41,17 +47,15 @@ pub fn divide(m: u32, a: &[Elem], c: Elem, out: &mut [Elem])
     ensures { out.new ≡ quotient (gf m) a.now c }
 {
     let factor = field::internal::inverse(m, c);
-    for i in 0..a.len() {
-        out[i] = field::internal::product(m, a[i], factor);
+    for (i, entry) in out.iter_mut().enumerate() {
+        *entry = field::internal::product(m, a[i], factor);
     }
 }
 
 pub fn clear(out: &mut [Elem])
     ensures { out.new ≡ tabulate (length out.old) (λ (i : ℕ). 0) }
 {
-    for i in 0..out.len() {
-        out[i] = 0;
-    }
+    out.fill(0);
 }
 
 // Adds the product of two blocks to what stands in out, and gives the number of products of elements that this took.
@@ -63,8 +67,8 @@ pub fn add_product(m: u32, a: &[Elem], b: &[Elem], out: &mut [Elem]) -> u32
     let mut left: [Elem; LONGEST] = [0; LONGEST];
     let mut right: [Elem; LONGEST] = [0; LONGEST];
     let s = a.len();
-    slices::copy(a, &mut left[..s]);
-    slices::copy(b, &mut right[..s]);
+    left[..s].copy_from_slice(a);
+    right[..s].copy_from_slice(b);
     add_by_halves(m, &mut left[..s], &mut right[..s], out)
 }
 
@@ -109,9 +113,8 @@ fn fold(h: usize, x: &mut [Elem])
     requires { length x.old ≡ h + h }
     ensures { (m : ℕ) → x.new ≡ folded (gf m) h x.old }
 {
-    for i in 0..h {
-        x[i] ^= x[h + i];
-    }
+    let (low, high) = x.split_at_mut(h);
+    add(low, high);
 }
 
 // The same for two blocks.

@@ -2,7 +2,6 @@ pub mod ChoiceLaws
 pub mod Choosing
 pub mod ChosenLaws
 pub mod Converting
-pub mod Ending
 pub mod EssenceLaws
 pub mod ShapeLaws
 pub mod Shaped

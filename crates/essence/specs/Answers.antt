@@ -1,8 +1,8 @@
 -- What the calls between signatures and essences answer, and what they leave in the lent buffer, for every input.
 use Rattle.std.specs.Prelude.{Bool, not, ◌&&◌, List, [], ◌∷◌, ◌++◌, ℕ, suc, ◌-◌, ◌^◌, leb, eqb, length}
 use Rattle.refusals.specs.Rules.{Rule, ◌unless◌, fault, unless_refused}
-use Rattle.refusals.specs.declared.Outcome.{Outcome}
-use Rattle.refusals.specs.declared.Outcome.TheVariants.{Done, Refused}
+use Rattle.refusals.specs.Outcome.{Outcome}
+use Rattle.refusals.specs.Outcome.{Done, Refused}
 use Rattle.field.specs.Range.{is_width}
 use Rattle.slices.specs.Lengths.{longest_log}
 use Rattle.slices.specs.Elements.{all_elements}

@@ -1,13 +1,15 @@
 // Essences: document 004's short form of a signature, e + 1 values for 2^e entries. The values are 1/h at 2^s plus 1/h_0, for each s below e, and
 // then 1/h_0; and 1/h_i is the sum of the last value and of those at the bits of i.
 //
-// The calls of this file take any input: what breaks a rule is refused by its number, and the lent buffer is written only where the call is Done.
+// The calls of this file take any input: what breaks a rule is refused by its number, and the lent buffer is written only where the call is Ok.
 #![tactic(auto)]
 
-ghost use Rattle.std.specs.Prelude.{◌≡◌, true, not, cond, ℕ, suc, ◌+◌, ◌-◌, ◌^◌, ◌≤◌, length};
+ghost use Rattle.std.specs.Prelude.{◌≡◌, true, not, [], ◌∷◌, ℕ, suc, ◌+◌, ◌-◌, ◌^◌, ◌≤◌, length};
 ghost use Rattle.algebra.specs.Lists.{entry_of};
 ghost use Rattle.algebra.specs.Tabulate.{tabulate};
-ghost use Rattle.refusals.specs.Rules.{fault};
+ghost use Rattle.refusals.specs.Rules.{◌unless◌, fault};
+ghost use Rattle.refusals.specs.Outcome.{Done, tested};
+ghost use Rattle.refusals.specs.Ending.{Ended};
 ghost use Rattle.signature.specs.Inverses.{Inverted};
 ghost use Rattle.slices.specs.Lengths.{longest, longest_log};
 ghost use Rattle.essence.specs.Answers.{is_value_count, shape_rules, essence_fault, essence_answer, essence_after, signature_answer, signature_after};
@@ -17,58 +19,49 @@ ghost use Rattle.essence.specs.Shape.{Shape};
 
 use field::Elem;
 use field::internal::is_width;
-use refusals::Outcome;
-use signature::{all_different, invert, no_zero, signature_fault};
+use refusals::{Refusal, Rule};
+use signature::{all_different, check_signature, invert, no_zero};
 use slices::{LONGEST, LONGEST_LOG};
 
 // The essence of a signature.
-pub fn essence(m: u32, h: &[Elem], out: &mut [Elem]) -> Outcome
+pub fn essence(m: u32, h: &[Elem], out: &mut [Elem]) -> Result<(), Refusal>
     ensures value { result ≡ essence_answer m h.now out.old }
     ensures out_after { out.new ≡ essence_after m h.now out.old }
 {
     let mut inverses: [Elem; LONGEST] = [0; LONGEST];
-    let number = essence_fault(m, h, out.len(), &mut inverses);
-    if number != 0 {
-        return Outcome::Refused(number);
-    }
+    check_essence(m, h, out.len(), &mut inverses)?;
     store_essence(&inverses, out);
-    Outcome::Done
+    Ok(())
 }
 
 // The signature of an essence.
-pub fn signature(m: u32, essence: &[Elem], out: &mut [Elem]) -> Outcome
+pub fn signature(m: u32, essence: &[Elem], out: &mut [Elem]) -> Result<(), Refusal>
     ensures value { result ≡ signature_answer m essence.now out.old }
     ensures out_after { out.new ≡ signature_after m essence.now out.old }
 {
     let mut inverses: [Elem; LONGEST] = [0; LONGEST];
     let n = out.len();
-    let number = shape_fault(m, essence, n, essence.len());
-    if number != 0 {
-        return Outcome::Refused(number);
-    }
-    if !convert(m, essence, &mut inverses[..n], out) {
-        return Outcome::Refused(refusals::DEPENDENT);
-    }
-    Outcome::Done
+    check_shape(m, essence, n, essence.len())?;
+    convert(m, essence, &mut inverses[..n], out)
 }
 
 // 1 to 3, for a signature of n entries and an essence of k values, of which a is given.
-fn shape_fault(m: u32, a: &[Elem], n: usize, k: usize) -> u32
-    ensures { result ≡ fault (shape_rules m a.now n k) }
+fn check_shape(m: u32, a: &[Elem], n: usize, k: usize) -> Result<(), Refusal>
+    ensures { result ≡ tested (fault (shape_rules m a.now n k)) }
 {
     if !is_width(m) {
-        return refusals::WIDTH;
+        return Err(Refusal(Rule::Width));
     }
     if !is_value_count(k) {
-        return refusals::LENGTH;
+        return Err(Refusal(Rule::Length));
     }
     if n != power(k - 1) {
-        return refusals::LENGTH;
+        return Err(Refusal(Rule::Length));
     }
     if !slices::all_elements(m, a) {
-        return refusals::RANGE;
+        return Err(Refusal(Rule::Range));
     }
-    0
+    Ok(())
 }
 
 // Whether an essence may have k values.
@@ -86,17 +79,14 @@ fn power(e: usize) -> usize
     1 << e
 }
 
-// The number that refuses a signature, whose essence has room for k values, or 0, and then `inverses` begins with the inverses of the entries.
-fn essence_fault(m: u32, h: &[Elem], k: usize, inverses: &mut [Elem]) -> u32
+// Whether a signature, whose essence has room for k values, is what it should be, and then `inverses` begins with the inverses of the entries.
+fn check_essence(m: u32, h: &[Elem], k: usize, inverses: &mut [Elem]) -> Result<(), Refusal>
     requires { longest ≤ length inverses.old }
-    ensures value { result ≡ essence_fault m h.now k }
-    ensures inverted { result ≡ 0 → Inverted m h.now inverses.new }
+    ensures value { result ≡ tested (essence_fault m h.now k) }
+    ensures inverted { result ≡ Done → Inverted m h.now inverses.new }
 {
-    let number = shape_fault(m, h, h.len(), k);
-    if number != 0 {
-        return number;
-    }
-    signature_fault(m, h, inverses)
+    check_shape(m, h, h.len(), k)?;
+    check_signature(m, h, inverses)
 }
 
 // The essence from the inverses of the entries, as many values as the buffer holds.
@@ -106,8 +96,8 @@ fn store_essence(inverses: &[Elem], out: &mut [Elem])
 {
     let first = inverses[0];
     let e = out.len() - 1;
-    for s in 0..e {
-        out[s] = inverses[power(s)] ^ first;
+    for (s, value) in out[..e].iter_mut().enumerate() {
+        *value = inverses[power(s)] ^ first;
     }
     out[e] = first;
 }
@@ -118,9 +108,9 @@ fn choice_sum(values: &[Elem], choice: usize) -> Elem
     ensures { (m : ℕ) → result ≡ choice_sum m values.now choice }
 {
     let mut sum: Elem = 0;
-    for s in 0..values.len() {
+    for (s, value) in values.iter().enumerate() {
         let taken = (choice >> s) % 2;
-        sum ^= taken as Elem * values[s];
+        sum ^= taken as Elem * *value;
     }
     sum
 }
@@ -133,22 +123,21 @@ fn store_inverses(essence: &[Elem], inverses: &mut [Elem])
         ≡ tabulate (length inverses.old) (λ (i : ℕ). choice_sum m essence.now (length inverses.old + i)) }
 {
     let n = inverses.len();
-    for i in 0..n {
-        inverses[i] = choice_sum(essence, n + i);
+    for (i, inverse) in inverses.iter_mut().enumerate() {
+        *inverse = choice_sum(essence, n + i);
     }
 }
 
-// Stores the signature of the essence if that is independent, and says whether it is. The inverses of the entries tell: none is zero and no two are
-// equal exactly if no choice of values, but the empty one, sums to zero.
-fn convert(m: u32, essence: &[Elem], inverses: &mut [Elem], out: &mut [Elem]) -> bool
+// Stores the signature of the essence, if that is independent. The inverses of the entries tell: none is zero and no two are equal exactly if no choice
+// of values, but the empty one, sums to zero.
+fn convert(m: u32, essence: &[Elem], inverses: &mut [Elem], out: &mut [Elem]) -> Result<(), Refusal>
     requires { Shape m essence.now (length inverses.old) (length essence.now) × (length out.old ≡ length inverses.old) }
-    ensures value { result ≡ not (dependent m essence.now) }
-    ensures out_after { out.new ≡ cond result (signature_of m (length essence.now - 1) essence.now) out.old }
+    ensures { Ended result ((17 unless not (dependent m essence.now)) ∷ []) out.old (signature_of m (length essence.now - 1) essence.now) out.new }
 {
     store_inverses(essence, inverses);
     if !(no_zero(inverses) & all_different(inverses)) {
-        return false;
+        return Err(Refusal(Rule::Dependent));
     }
     invert(m, inverses, out);
-    true
+    Ok(())
 }

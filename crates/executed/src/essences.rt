@@ -1,16 +1,16 @@
 // Essences: that of card T, and signatures of essences, or what refuses them.
 use crate::{TOY, print, print_elements, print_outcome};
 use field::Elem;
-use refusals::Outcome;
+use refusals::Refusal;
 use std::io;
 
 // Elements of the field of width 16, no choice of which sums to zero; one more than an essence has at most.
 const ELEVEN: [Elem; 11] = [1, 2, 4, 8, 16, 32, 64, 128, 256, 512, 1024];
 
-fn show(rt: &impl Print, outcome: Outcome, written: &[Elem]) -> io::Result<()> {
+fn show(rt: &impl Print, outcome: Result<(), Refusal>, written: &[Elem]) -> io::Result<()> {
     match outcome {
-        Outcome::Done => print_elements(rt, written),
-        Outcome::Refused(number) => print_outcome(rt, Outcome::Refused(number)),
+        Ok(()) => print_elements(rt, written),
+        Err(_) => print_outcome(rt, outcome),
     }
 }
 

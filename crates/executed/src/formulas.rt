@@ -1,7 +1,6 @@
 // Formulas, each with what it answers.
 use crate::{print, print_elements, print_outcome};
 use field::Elem;
-use refusals::Outcome;
 use std::io;
 
 // Card A's signature.
@@ -20,8 +19,8 @@ fn show(rt: &impl Print, text: &[u8]) -> io::Result<()> {
     print(rt, text)?;
     print(rt, b":")?;
     match outcome {
-        Outcome::Done => print_elements(rt, &out),
-        Outcome::Refused(number) => print_outcome(rt, Outcome::Refused(number)),
+        Ok(()) => print_elements(rt, &out),
+        Err(_) => print_outcome(rt, outcome),
     }
 }
 

@@ -7,10 +7,11 @@ mod formulas;
 mod pairs;
 mod short;
 
-use field::{Answer, Elem};
+use field::Elem;
 use params::Parameters;
-use refusals::Outcome;
+use refusals::Refusal;
 use repair::Recovery;
+use shortened::Setting;
 use std::io;
 
 // Card T.
@@ -38,31 +39,38 @@ fn print_number(rt: &impl Print, number: u64) -> io::Result<()> {
 }
 
 fn print_elements(rt: &impl Print, elements: &[Elem]) -> io::Result<()> {
-    for i in 0..elements.len() {
-        print_number(rt, elements[i] as u64)?;
+    for element in elements {
+        print_number(rt, *element as u64)?;
     }
     print(rt, b"\n")
 }
 
 // The places that hold 1.
 fn print_ones(rt: &impl Print, word: &[u8]) -> io::Result<()> {
-    for j in 0..word.len() {
-        if word[j] == 1 {
+    for (j, bit) in word.iter().enumerate() {
+        if *bit == 1 {
             print_number(rt, j as u64)?;
         }
     }
     print(rt, b"\n")
 }
 
-fn print_outcome(rt: &impl Print, outcome: Outcome) -> io::Result<()> {
+fn print_outcome(rt: &impl Print, outcome: Result<(), Refusal>) -> io::Result<()> {
     match outcome {
-        Outcome::Done => print(rt, b" accepted\n"),
-        Outcome::Refused(number) => {
-            print(rt, b" refused by")?;
-            print_number(rt, number as u64)?;
-            print(rt, b"\n")
+        Ok(()) => print(rt, b" accepted\n"),
+        Err(refusal) => {
+            print!(rt; " {refusal}\n")?;
+            Ok(())
         }
     }
+}
+
+// Prints what refused a call, if anything did, before what it left in its buffers.
+fn print_refusal(rt: &impl Print, outcome: Result<(), Refusal>) -> io::Result<()> {
+    if let Err(refusal) = outcome {
+        print!(rt; " {refusal}\n")?;
+    }
+    Ok(())
 }
 
 fn print_recovery(rt: &impl Print, recovery: Recovery, repaired: &[u8]) -> io::Result<()> {
@@ -73,7 +81,7 @@ fn print_recovery(rt: &impl Print, recovery: Recovery, repaired: &[u8]) -> io::R
             print(rt, b", ones at")?;
             print_ones(rt, repaired)
         }
-        Recovery::Refused(number) => print_outcome(rt, Outcome::Refused(number)),
+        Recovery::Refused(refusal) => print_outcome(rt, Err(refusal)),
     }
 }
 
@@ -82,8 +90,12 @@ fn show_toy(rt: &impl Print) -> io::Result<()> {
     let mut support: [Elem; 16] = [0; 16];
     let mut roles: [u8; 16] = [0; 16];
     let c = toy();
-    codes::check(c, &TOY, &NOTHING, &mut roots, &mut support);
-    words::roles(c, &TOY, &NOTHING, &mut roles);
+    print_refusal(
+        rt,
+        codes::check(c, &TOY, &NOTHING, &mut roots, &mut support),
+    )?;
+    let counted = words::roles(c, &TOY, &Setting::whole_code(&NOTHING), &mut roles);
+    print_refusal(rt, counted.map(|_| ()))?;
     print(rt, b"toy example: support")?;
     print_elements(rt, &support)?;
     print(rt, b"toy example: roots")?;
@@ -94,7 +106,8 @@ fn show_toy(rt: &impl Print) -> io::Result<()> {
 
 fn show_repair(rt: &impl Print, received: &[u8]) -> io::Result<()> {
     let mut repaired: [u8; 16] = [0; 16];
-    let recovery = repair::repair(toy(), &TOY, &NOTHING, received, &mut repaired);
+    let s = Setting::whole_code(&NOTHING);
+    let recovery = repair::repair(toy(), &TOY, &s, received, &mut repaired);
     print_recovery(rt, recovery, &repaired)
 }
 
@@ -109,8 +122,9 @@ fn turned(word: [u8; 16], place: usize) -> [u8; 16] {
 }
 
 fn show_row(rt: &impl Print) -> io::Result<()> {
+    let s = Setting::whole_code(&NOTHING);
     let mut word: [u8; 16] = [0; 16];
-    rows::write_row(toy(), &TOY, &NOTHING, 1, 0, &mut word);
+    print_refusal(rt, rows::write_row(toy(), &TOY, &s, 1, 0, &mut word))?;
     print(rt, b"first, dark: ones at")?;
     print_ones(rt, &word)?;
     let received = turned(turned(word, 0), 8);
@@ -175,17 +189,14 @@ fn show_length_3(rt: &impl Print) -> io::Result<()> {
 
 // The inverse of an element of the field of width 9.
 fn inverse(a: u32) -> Elem {
-    match field::inverse(9, a) {
-        Answer::Element(inverse) => inverse,
-        Answer::Refused(_) => 0,
-    }
+    field::inverse(9, a).unwrap_or(0)
 }
 
 // The signature of 256 entries whose 1/h_i is 256 + i.
 fn signature_256() -> [Elem; 256] {
     let mut h: [Elem; 256] = [0; 256];
-    for i in 0..256 {
-        h[i] = inverse(256 + i as u32);
+    for (entry, a) in h.iter_mut().zip(256..512u32) {
+        *entry = inverse(a);
     }
     h
 }
@@ -238,7 +249,7 @@ fn show_empty_message(rt: &impl Print) -> io::Result<()> {
         words::encode(
             code(2, 2, 1, 0),
             &h,
-            &NOTHING[..2],
+            &Setting::whole_code(&NOTHING[..2]),
             &message[..0],
             &mut word,
         ),

@@ -1,9 +1,9 @@
 // Every pair of a gear and a lamp on card T: whether it is written as a row, and what is read from its word with no, one and two bits turned. A pair
 // that is no row is encoded as a message, so that the reader meets it too.
-use crate::{NOTHING, TOY, print, print_number, toy, turned};
+use crate::{NOTHING, TOY, print, print_number, print_refusal, toy, turned};
 use gears::Lamp;
-use refusals::Outcome;
 use rows::Reading;
+use shortened::Setting;
 use std::io;
 
 fn print_gear(rt: &impl Print, gear: u32) -> io::Result<()> {
@@ -28,7 +28,7 @@ fn print_lamp(rt: &impl Print, lamp: Lamp) -> io::Result<()> {
 }
 
 // The word that carries the bits of a gear and a lamp.
-fn word_of(gear: u32, lamp: u32) -> [u8; 16] {
+fn word_of(rt: &impl Print, gear: u32, lamp: u32) -> io::Result<[u8; 16]> {
     let message: [u8; 6] = [
         (gear % 2) as u8,
         (gear / 2 % 2) as u8,
@@ -38,14 +38,15 @@ fn word_of(gear: u32, lamp: u32) -> [u8; 16] {
         0,
     ];
     let mut word: [u8; 16] = [0; 16];
-    words::encode(toy(), &TOY, &NOTHING, &message, &mut word);
-    word
+    let s = Setting::whole_code(&NOTHING);
+    print_refusal(rt, words::encode(toy(), &TOY, &s, &message, &mut word))?;
+    Ok(word)
 }
 
 fn show_reading(rt: &impl Print, received: [u8; 16]) -> io::Result<()> {
     let mut repaired: [u8; 16] = [0; 16];
-    let reading = rows::read_row(toy(), &TOY, &NOTHING, &received, &mut repaired);
-    match reading {
+    let s = Setting::whole_code(&NOTHING);
+    match rows::read_row(toy(), &TOY, &s, &received, &mut repaired) {
         Reading::Read(row, count) => {
             let lamp = row.lamp;
             print(rt, b"; ")?;
@@ -54,9 +55,9 @@ fn show_reading(rt: &impl Print, received: [u8; 16]) -> io::Result<()> {
             print(rt, b", repaired bits")?;
             print_number(rt, count as u64)
         }
-        Reading::Refused(number) => {
-            print(rt, b"; refused by")?;
-            print_number(rt, number as u64)
+        Reading::Refused(refusal) => {
+            print!(rt; "; {refusal}")?;
+            Ok(())
         }
     }
 }
@@ -64,24 +65,23 @@ fn show_reading(rt: &impl Print, received: [u8; 16]) -> io::Result<()> {
 // The word of a gear and a lamp, the lamp by its number: written as a row where it is one.
 fn sent(rt: &impl Print, gear: u32, number: u32) -> io::Result<[u8; 16]> {
     let mut word: [u8; 16] = [0; 16];
-    let outcome = rows::write_row(toy(), &TOY, &NOTHING, gear, number, &mut word);
-    match outcome {
-        Outcome::Done => {
+    let s = Setting::whole_code(&NOTHING);
+    match rows::write_row(toy(), &TOY, &s, gear, number, &mut word) {
+        Ok(()) => {
             print(rt, b" is written")?;
             Ok(word)
         }
-        Outcome::Refused(refusal) => {
-            print(rt, b" is refused by")?;
-            print_number(rt, refusal as u64)?;
-            Ok(word_of(gear, number))
+        Err(refusal) => {
+            print!(rt; " is {refusal}")?;
+            word_of(rt, gear, number)
         }
     }
 }
 
-fn show_pair(rt: &impl Print, gear: u32, number: u32, lamp: Lamp) -> io::Result<()> {
+fn show_pair(rt: &impl Print, gear: u32, lamp: Lamp) -> io::Result<()> {
     print_gear(rt, gear)?;
     print_lamp(rt, lamp)?;
-    let word = sent(rt, gear, number)?;
+    let word = sent(rt, gear, lamp.into())?;
     let single = turned(word, 0);
     show_reading(rt, word)?;
     show_reading(rt, single)?;
@@ -91,9 +91,9 @@ fn show_pair(rt: &impl Print, gear: u32, number: u32, lamp: Lamp) -> io::Result<
 
 pub fn show_pairs(rt: &impl Print) -> io::Result<()> {
     for gear in 0..8u32 {
-        show_pair(rt, gear, 0, Lamp::Dark)?;
-        show_pair(rt, gear, 1, Lamp::Green)?;
-        show_pair(rt, gear, 2, Lamp::Amber)?;
+        for lamp in [Lamp::Dark, Lamp::Green, Lamp::Amber] {
+            show_pair(rt, gear, lamp)?;
+        }
     }
     Ok(())
 }

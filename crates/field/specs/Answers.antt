@@ -1,8 +1,8 @@
 -- What the field's public calls answer, for every input: the number of the first rule that does not hold, or the element.
 use Rattle.std.specs.Prelude.{List, [], ◌∷◌, ◌++◌, ℕ}
 use Rattle.algebra.specs.Xor.{◌⊕◌}
-use Rattle.field.specs.declared.Answer.{Answer}
-use Rattle.field.specs.declared.Answer.TheVariants.{Element, Refused}
+use Rattle.field.specs.Found.{Answer}
+use Rattle.field.specs.Found.{Element, Refused}
 use Rattle.field.specs.Product.{product, inverse}
 use Rattle.field.specs.Words.{word}
 use Rattle.refusals.specs.Rules.{Rule, ◌unless◌, fault, unless_refused}

@@ -7,4 +7,5 @@ pub mod Words
 pub mod Gf
 pub mod Range
 pub mod RangeLaws
+pub mod Found
 pub mod Answers

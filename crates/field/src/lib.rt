@@ -7,70 +7,55 @@
 pub mod internal;
 
 ghost use Rattle.std.specs.Prelude.{◌≡◌};
+ghost use Rattle.refusals.specs.Outcome.{tested};
 ghost use Rattle.field.specs.Answers.{element_fault, pair_fault, sum_answer, product_answer, inverse_answer};
+
+use refusals::{Refusal, Rule};
 
 // An element of any of the fields.
 pub type Elem = u16;
 
-#[derive(Clone, Copy)]
-pub enum Answer {
-    Element(Elem),
-    Refused(u32),
-}
-
-pub fn sum(m: u32, a: u32, b: u32) -> Answer
+pub fn sum(m: u32, a: u32, b: u32) -> Result<Elem, Refusal>
     ensures { result ≡ sum_answer m a b }
 {
-    let number = pair_fault(m, a, b);
-    if number != 0 {
-        return Answer::Refused(number);
-    }
-    Answer::Element((a ^ b) as Elem)
+    check_pair(m, a, b)?;
+    Ok((a ^ b) as Elem)
 }
 
-pub fn product(m: u32, a: u32, b: u32) -> Answer
+pub fn product(m: u32, a: u32, b: u32) -> Result<Elem, Refusal>
     ensures { result ≡ product_answer m a b }
 {
-    let number = pair_fault(m, a, b);
-    if number != 0 {
-        return Answer::Refused(number);
-    }
-    Answer::Element(internal::product(m, a as Elem, b as Elem))
+    check_pair(m, a, b)?;
+    Ok(internal::product(m, a as Elem, b as Elem))
 }
 
-pub fn inverse(m: u32, a: u32) -> Answer
+pub fn inverse(m: u32, a: u32) -> Result<Elem, Refusal>
     ensures { result ≡ inverse_answer m a }
 {
-    let number = element_fault(m, a);
-    if number != 0 {
-        return Answer::Refused(number);
-    }
-    Answer::Element(internal::inverse(m, a as Elem))
+    check_element(m, a)?;
+    Ok(internal::inverse(m, a as Elem))
 }
 
-// The number that refuses a width and an element of it, or 0.
-fn element_fault(m: u32, a: u32) -> u32
-    ensures { result ≡ element_fault m a }
+// Whether a width and an element of it are what they should be.
+fn check_element(m: u32, a: u32) -> Result<(), Refusal>
+    ensures { result ≡ tested (element_fault m a) }
 {
     if !internal::is_width(m) {
-        return refusals::WIDTH;
+        return Err(Refusal(Rule::Width));
     }
     if !internal::is_element(m, a) {
-        return refusals::RANGE;
+        return Err(Refusal(Rule::Range));
     }
-    0
+    Ok(())
 }
 
 // The same for two elements.
-fn pair_fault(m: u32, a: u32, b: u32) -> u32
-    ensures { result ≡ pair_fault m a b }
+fn check_pair(m: u32, a: u32, b: u32) -> Result<(), Refusal>
+    ensures { result ≡ tested (pair_fault m a b) }
 {
-    let number = element_fault(m, a);
-    if number != 0 {
-        return number;
-    }
+    check_element(m, a)?;
     if !internal::is_element(m, b) {
-        return refusals::RANGE;
+        return Err(Refusal(Rule::Range));
     }
-    0
+    Ok(())
 }

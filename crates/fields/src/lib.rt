@@ -2,7 +2,7 @@
 #![tactic(auto)]
 
 ghost use Rattle.std.specs.Prelude.{◌≡◌, true, ◌+◌, ◌*◌, ◌≤◌, length};
-ghost use Rattle.fields.specs.Fields.{field_width, lead_byte, lead_text, number_text, number_at, holds_at, is_number};
+ghost use Rattle.fields.specs.Fields.{field_width, lead_byte, lead_text, number_text, number_at, is_number};
 ghost use Rattle.fields.specs.Fields.{line_text, line_length, numbers_at, is_line};
 ghost use Rattle.fields.specs.Written.{written};
 
@@ -30,9 +30,7 @@ fn put_lead(value: u32, count: usize, at: usize, out: &mut [u8])
     ensures { out.new ≡ written out.old at (lead_text count value) }
 {
     let mut rest = value;
-    let mut i = count;
-    while 0 < i {
-        i -= 1;
+    for i in (0..count).rev() {
         out[at + i] = lead_byte(rest);
         rest /= 10;
     }
@@ -53,8 +51,8 @@ pub fn put_line(numbers: &[u32], at: usize, out: &mut [u8]) -> usize
     ensures value { result ≡ at + line_length (length numbers.now) }
     ensures out_after { out.new ≡ written out.old at (line_text numbers.now) }
 {
-    for i in 0..numbers.len() {
-        put_number(numbers[i], at + i * FIELD, out);
+    for (i, number) in numbers.iter().enumerate() {
+        put_number(*number, at + i * FIELD, out);
     }
     let end = at + numbers.len() * FIELD;
     out[end] = b'\n';
@@ -67,23 +65,10 @@ pub fn value_at(text: &[u8], at: usize) -> u32
     ensures { result ≡ number_at text.now at }
 {
     let mut v: u32 = 0;
-    for i in 0..FIELD {
-        v = v * 10 + (text[at + i] % 16) as u32;
+    for byte in &text[at..at + FIELD] {
+        v = v * 10 + (*byte % 16) as u32;
     }
     v
-}
-
-// Whether the text holds `part` from place `at` on.
-fn holds(text: &[u8], at: usize, part: &[u8]) -> bool
-    requires { at + length part.now ≤ length text.now }
-    ensures { result ≡ holds_at text.now at part.now }
-{
-    for i in 0..part.len() {
-        if text[at + i] != part[i] {
-            return false;
-        }
-    }
-    true
 }
 
 // Whether the field at place `at` holds a number.
@@ -97,7 +82,10 @@ fn is_number(text: &[u8], at: usize) -> bool
     }
     let mut printed: [u8; FIELD] = [0; FIELD];
     put_number(v, 0, &mut printed);
-    holds(text, at, &printed)
+    text[at..at + FIELD]
+        .iter()
+        .zip(&printed)
+        .all(|(byte, due)| *byte == *due)
 }
 
 // Whether a line of `count` numbers begins at place `at`.
@@ -105,12 +93,7 @@ pub fn is_line(text: &[u8], at: usize, count: usize) -> bool
     requires { at + line_length count ≤ length text.now }
     ensures { result ≡ is_line text.now at count }
 {
-    for i in 0..count {
-        if !is_number(text, at + i * FIELD) {
-            return false;
-        }
-    }
-    text[at + count * FIELD] == b'\n'
+    (0..count).all(|i| is_number(text, at + i * FIELD)) && text[at + count * FIELD] == b'\n'
 }
 
 // The numbers of the line that begins at place `at`.
@@ -118,7 +101,7 @@ pub fn read_line(text: &[u8], at: usize, numbers: &mut [Elem])
     requires { (at + line_length (length numbers.old) ≤ length text.now) × (is_line text.now at (length numbers.old) ≡ true) }
     ensures { numbers.new ≡ numbers_at text.now at (length numbers.old) }
 {
-    for i in 0..numbers.len() {
-        numbers[i] = value_at(text, at + i * FIELD) as Elem;
+    for (i, number) in numbers.iter_mut().enumerate() {
+        *number = value_at(text, at + i * FIELD) as Elem;
     }
 }

@@ -12,14 +12,13 @@ use Rattle.field.specs.Gf.{Width, gf}
 use Rattle.slices.specs.Elements.{Elements}
 use Rattle.dyadic.specs.Block.{block_sum, block_product, block_inverse}
 use Rattle.formula.specs.declared.evaluators.Cursor.{Cursor}
-use Rattle.formula.specs.declared.evaluators.Found.{Found}
-use Rattle.formula.specs.declared.evaluators.Found.TheVariants.{Read, Nothing}
 use Rattle.formula.specs.Letters.{Lent, is_lent, plus_byte, times_byte, over_byte, open_byte, close_byte}
 use Rattle.dyadic.specs.Invertible.{is_invertible}
 use Rattle.formula.specs.Callers.{Ready, LetterIs, Fetched}
 use Rattle.formula.specs.Parser.{multiplied, divided}
 use Rattle.formula.proofs.Passing.{product_times, product_over}
-use Rattle.formula.specs.Evaluated.{Kind, sums, products, terms, Held, Ends, NoneAt, OnFound, Finds, Moves}
+use Rattle.std.specs.Prelude.{Some, None}
+use Rattle.formula.specs.Evaluated.{Found, Kind, sums, products, terms, Held, Ends, NoneAt, OnFound, Finds, Moves}
 use Rattle.formula.proofs.Steps.{on, held_letter, held_bracket, held_term, held_product, held_times, held_over, held_plus}
 use Rattle.formula.proofs.Steps.{term_moves, product_moves}
 use Rattle.formula.proofs.Refusing.{no_letter, no_bracket, no_inner, no_close, no_factor, no_addend}
@@ -40,11 +39,17 @@ module _ {K E : Kind} {m : ℕ} {β : Lent} {k : ℕ} {text : List ℕ} {from : 
   abbrev Holds : Cursor → Type 0
   Holds to = Held K m β k text from to value × Ends E (get_or text to.at 0)
 
-  pub found_read : {to : Cursor} → r ≡ Read to → Holds to
+  pub found_read : {to : Cursor} → r ≡ Some to → Holds to
   found_read z = subst (OnFound Holds (NoneAt K β k text from.at)) z f.found
 
-  pub found_none : r ≡ Nothing → NoneAt K β k text from.at
+  pub found_none : r ≡ None → NoneAt K β k text from.at
   found_none z = subst (OnFound Holds (NoneAt K β k text from.at)) z f.found
+
+-- where no formula is, an evaluator finds none, also where a `?` hands that on
+none_there : {K E : Kind} {m : ℕ} {β : Lent} {k : ℕ} {text : List ℕ} {from : Cursor} {value : List ℕ} {r : Found} → r ≡ None
+    → NoneAt K β k text from.at → Finds K E m β k text from value r
+none_there {K} {E} {m} {β} {k} {text} {from} {value} z none =
+    record { found = subst (OnFound (λ to. Held K m β k text from to value × Ends E (get_or text to.at 0)) (NoneAt K β k text from.at)) (sym z) none }
 
 module _ {m : ℕ} {β : Lent} {k : ℕ} {text : List ℕ} {from : Cursor} where
   -- ---- terms
@@ -56,35 +61,35 @@ module _ {m : ℕ} {β : Lent} {k : ℕ} {text : List ℕ} {from : Cursor} where
       held_letter m β text k from l (sym e ∙ b) lent v (subst (Elements m) (sym v) (ready.elements l))
 
   pub letter_none : {byte : ℕ} {value new : List ℕ} {r : Bool} → byte ≡ get_or text from.at 0 → byte ≢ open_byte → Fetched β byte new r → r ≡ false
-      → Finds terms terms m β k text from value Nothing
+      → Finds terms terms m β k text from value None
   letter_none {byte = byte} {new = new} {r} e ne f t =
       record { found = no_letter m β text k from.at e ne (subst (LetterIs β byte new) t f.fetched) }
 
   -- with the marks after it
   pub marks_read : (last : Cursor) {next to : Cursor} {value new : List ℕ} → Held terms m β k text from (on last) value → next ≡ on last
       → ((β : Lent) (k : ℕ) (start : Cursor) → Held terms m β k text start next value → Held terms m β k text start to new)
-      → Ends terms (get_or text to.at 0) → Finds terms terms m β k text from new (Read to)
+      → Ends terms (get_or text to.at 0) → Finds terms terms m β k text from new (Some to)
   marks_read last {value = value} h x more ends =
       record { found = (more β k from (subst (λ (c : Cursor). Held terms m β k text from c value) (sym x) h), ends) }
 
   pub too_deep : {byte : ℕ} {value : List ℕ} → byte ≡ get_or text from.at 0 → byte ≡ open_byte → k ≡ 0
-      → Finds terms terms m β k text from value Nothing
+      → Finds terms terms m β k text from value None
   too_deep e o z =
       record { found = subst (λ (j : ℕ). NoneAt terms β j text from.at) (sym z) (no_bracket m β text from.at (sym e ∙ o)) }
 
   -- ---- products
 
-  pub term_first : {value : List ℕ} {r : Found} {to : Cursor} → Finds terms terms m β k text from value r → r ≡ Read to
+  pub term_first : {value : List ℕ} {r : Found} {to : Cursor} → Finds terms terms m β k text from value r → r ≡ Some to
       → Held products m β k text from to value
   term_first f z = held_term m β text k (found_read f z).0
 
-  pub factor_none : {value new : List ℕ} {r : Found} → Finds products terms m β k text from value r → r ≡ Nothing
-      → Finds products products m β k text from new Nothing
-  factor_none f z = record { found = found_none f z }
+  pub factor_none : {value new : List ℕ} {r r' : Found} → Finds products terms m β k text from value r → r ≡ None → r' ≡ None
+      → Finds products products m β k text from new r'
+  factor_none f z z' = none_there z' (found_none f z)
 
   pub product_read : {value : List ℕ} {to : Cursor} {byte : ℕ} {more : Bool} → Held products m β k text from to value
       → Ends terms (get_or text to.at 0) → byte ≡ get_or text to.at 0 → more ≡ (eqb byte times_byte || eqb byte over_byte) → more ≡ false
-      → Finds products products m β k text from value (Read to)
+      → Finds products products m β k text from value (Some to)
   product_read {byte = byte} h ends e x z =
       let (t, o) = neither (eqb byte times_byte) (eqb byte over_byte) (sym x ∙ z) in
       record { found = (h, (ends, λ q. t (eq-eqb byte times_byte (e ∙ q)), λ q. o (eq-eqb byte over_byte (e ∙ q)))) }
@@ -96,16 +101,16 @@ module _ {m : ℕ} {β : Lent} {k : ℕ} {text : List ℕ} {from : Cursor} where
 
   -- ---- sums
 
-  pub product_first : {value : List ℕ} {r : Found} {to : Cursor} → Finds products products m β k text from value r → r ≡ Read to
+  pub product_first : {value : List ℕ} {r : Found} {to : Cursor} → Finds products products m β k text from value r → r ≡ Some to
       → Held sums m β k text from to value
   product_first f z = held_product m β text k (found_read f z).0
 
-  pub addend_none : {value new : List ℕ} {r : Found} → Finds sums products m β k text from value r → r ≡ Nothing
-      → Finds sums sums m β k text from new Nothing
-  addend_none f z = record { found = found_none f z }
+  pub addend_none : {value new : List ℕ} {r r' : Found} → Finds sums products m β k text from value r → r ≡ None → r' ≡ None
+      → Finds sums sums m β k text from new r'
+  addend_none f z z' = none_there z' (found_none f z)
 
   pub sum_read : {value : List ℕ} {to : Cursor} {byte : ℕ} → Held sums m β k text from to value → Ends products (get_or text to.at 0)
-      → byte ≡ get_or text to.at 0 → byte ≢ plus_byte → Finds sums sums m β k text from value (Read to)
+      → byte ≡ get_or text to.at 0 → byte ≢ plus_byte → Finds sums sums m β k text from value (Some to)
   sum_read h ends e ne = record { found = (h, (ends.0, ends.1, ends.2, λ q. ne (e ∙ q))) }
 
 -- ---- a sum in brackets
@@ -116,19 +121,17 @@ module _ {m : ℕ} {β : Lent} {k : ℕ} {text : List ℕ} (from : Cursor) {byte
   less : k ≡ suc (k - 1)
   less = omega arith
 
-  pub inner_none : {new : List ℕ} → r ≡ Nothing → Finds terms terms m β k text from new Nothing
-  inner_none z =
-      record {
-        found =
-            subst (λ (j : ℕ). NoneAt terms β j text from.at) (sym less)
-            (no_inner m β text (k - 1) from.at (sym e ∙ o) (subst (λ (c : Cursor). NoneAt sums β (k - 1) text c.at) x (found_none inner z)));
-      }
+  pub inner_none : {new : List ℕ} {r' : Found} → r ≡ None → r' ≡ None → Finds terms terms m β k text from new r'
+  inner_none z z' =
+      none_there z'
+      (subst (λ (j : ℕ). NoneAt terms β j text from.at) (sym less)
+      (no_inner m β text (k - 1) from.at (sym e ∙ o) (subst (λ (c : Cursor). NoneAt sums β (k - 1) text c.at) x (found_none inner z))))
 
-  module _ {to : Cursor} (z : r ≡ Read to) {last : ℕ} (e' : last ≡ get_or text to.at 0) where
+  module _ {to : Cursor} (z : r ≡ Some to) {last : ℕ} (e' : last ≡ get_or text to.at 0) where
     read : Held sums m β (k - 1) text (on from) to value × Ends sums (get_or text to.at 0)
     read = subst (λ (c : Cursor). Held sums m β (k - 1) text c to value × Ends sums (get_or text to.at 0)) x (found_read inner z)
 
-    pub not_closed : {new : List ℕ} → last ≢ close_byte → Finds terms terms m β k text from new Nothing
+    pub not_closed : {new : List ℕ} → last ≢ close_byte → Finds terms terms m β k text from new None
     not_closed apart =
         record {
           found =
@@ -145,18 +148,18 @@ module _ {m : ℕ} {β : Lent} {k : ℕ} {text : List ℕ} (from : Cursor) {byte
 
 module _ {m : ℕ} {β : Lent} {k : ℕ} {text : List ℕ} (from : Cursor) {next : Cursor} (x : next ≡ on from) where
   module _ {other : List ℕ} {r : Found} (found : Finds terms terms m β k text next other r) where
-    term_held : {to : Cursor} → r ≡ Read to → Held terms m β k text (on from) to other × Ends terms (get_or text to.at 0)
+    term_held : {to : Cursor} → r ≡ Some to → Held terms m β k text (on from) to other × Ends terms (get_or text to.at 0)
     term_held {to} z =
         subst (λ (c : Cursor). Held terms m β k text c to other × Ends terms (get_or text to.at 0)) x (found_read found z)
 
-    pub factor_moves : {to : Cursor} → r ≡ Read to → from.at < to.at
+    pub factor_moves : {to : Cursor} → r ≡ Some to → from.at < to.at
     factor_moves z =
         let l = term_moves m β text (term_held z).0 in omega arith
 
     module _ {start : Cursor} {value : List ℕ} (W : Width m) (h : Held products m β k text start from value) where
-      pub no_term : {new : List ℕ} → (eqb (get_or text from.at 0) times_byte || eqb (get_or text from.at 0) over_byte) ≡ true → r ≡ Nothing
-          → Finds products terms m β k text start new Nothing
-      no_term operator z = record { found = by (operator_is (get_or text from.at 0) operator) }
+      pub no_term : {new : List ℕ} {r' : Found} → (eqb (get_or text from.at 0) times_byte || eqb (get_or text from.at 0) over_byte) ≡ true → r ≡ None
+          → r' ≡ None → Finds products terms m β k text start new r'
+      no_term operator z z' = none_there z' (by (operator_is (get_or text from.at 0) operator))
         where
           none : NoneAt terms β k text (from.at + 1)
           none = subst (λ (c : Cursor). NoneAt terms β k text c.at) x (found_none found z)
@@ -167,15 +170,15 @@ module _ {m : ℕ} {β : Lent} {k : ℕ} {text : List ℕ} (from : Cursor) {next
           by (inr e) =
               no_factor m β text k h over_byte (divided h.tree) (λ outer s. product_over (is_lent β) k outer s h.tree) e (lit< tt) none
 
-      pub times_read : {to : Cursor} {byte : ℕ} {new : List ℕ} → r ≡ Read to → byte ≡ get_or text from.at 0 → byte ≡ times_byte
-          → new ≡ block_product (gf m) value other → Finds products terms m β k text start new (Read to)
+      pub times_read : {to : Cursor} {byte : ℕ} {new : List ℕ} → r ≡ Some to → byte ≡ get_or text from.at 0 → byte ≡ times_byte
+          → new ≡ block_product (gf m) value other → Finds products terms m β k text start new (Some to)
       times_read z e o v =
           let (t, ends) = term_held z in record { found = (held_times m β text k W h (sym e ∙ o) t v, ends) }
 
-      pub over_read : {to : Cursor} {byte : ℕ} {new : List ℕ} {exists : Bool} → r ≡ Read to → byte ≡ get_or text from.at 0 → byte ≢ times_byte
+      pub over_read : {to : Cursor} {byte : ℕ} {new : List ℕ} {exists : Bool} → r ≡ Some to → byte ≡ get_or text from.at 0 → byte ≢ times_byte
           → (eqb (get_or text from.at 0) times_byte || eqb (get_or text from.at 0) over_byte) ≡ true → exists ≡ is_invertible m other
           → new ≡ block_product (gf m) value (block_inverse (gf m) other)
-          → Finds products terms m β k text start new (Read (record { at = to.at; exists = to.exists && exists }))
+          → Finds products terms m β k text start new (Some (record { at = to.at; exists = to.exists && exists }))
       over_read z e ne operator x' v =
           let (t, ends) = term_held z in
           record { found = (held_over m β text k W h (divides (operator_is (get_or text from.at 0) operator)) t x' v, ends) }
@@ -195,14 +198,14 @@ module _ {m : ℕ} {β : Lent} {k : ℕ} {text : List ℕ} (from : Cursor) {next
         by : (f : Found) → OnFound (λ to. Held products m β k text (on from) to other × Ends products (get_or text to.at 0))
             (NoneAt products β k text (from.at + 1)) f
             → OnFound (λ to. Held sums m β k text start to new × Ends products (get_or text to.at 0)) (NoneAt sums β k text start.at) f
-        by (Read to) (p, ends) = (held_plus m β text k W long h plus p v, ends)
-        by Nothing none = no_addend m β text k h plus none
+        by (Some to) (p, ends) = (held_plus m β text k W long h plus p v, ends)
+        by None none = no_addend m β text k h plus none
 
     pub addend_moves : Moves from.at r
     addend_moves = record { moves = by r found_on.found }
       where
         by : (f : Found) → OnFound (λ to. Held products m β k text (on from) to other × Ends products (get_or text to.at 0))
             (NoneAt products β k text (from.at + 1)) f → OnFound (λ to. from.at < to.at) (Unit {0}) f
-        by (Read to) (p, ends) =
+        by (Some to) (p, ends) =
             let l = product_moves m β text p in omega arith
-        by Nothing none = tt
+        by None none = tt

@@ -1,8 +1,8 @@
 -- What the call on a formula answers, and what it leaves in the lent buffer, for every input.
 use Rattle.std.specs.Prelude.{◌≡◌, Bool, true, false, ◌||◌, ◌&&◌, List, [], ◌∷◌, ◌++◌, ℕ, eqb, length}
 use Rattle.refusals.specs.Rules.{Rule, ◌unless◌, fault, unless_refused}
-use Rattle.refusals.specs.declared.Outcome.{Outcome}
-use Rattle.refusals.specs.declared.Outcome.TheVariants.{Done, Refused}
+use Rattle.refusals.specs.Outcome.{Outcome}
+use Rattle.refusals.specs.Outcome.{Done, Refused}
 use Rattle.field.specs.Range.{is_width}
 use Rattle.slices.specs.Lengths.{is_power}
 use Rattle.slices.specs.Elements.{all_elements}

@@ -1,10 +1,9 @@
 -- What the evaluators promise: the formula that they found at their place, with its block, or that the parser of Parser finds none there.
-use Rattle.std.specs.Prelude.{◌≡◌, ◌≢◌, Bool, ◌&&◌, List, ◌++◌, ℕ, ◌<◌, ◌≤◌, length, drop, get_or}
+use Rattle.std.specs.Prelude.{◌≡◌, ◌≢◌, Bool, ◌&&◌, List, ◌++◌, ℕ, ◌<◌, ◌≤◌, length, drop, get_or, Option, Some, None}
 use Rattle.refusals.specs.Rules.{fault}
+use Rattle.refusals.specs.Outcome.{Outcome, Done, tested}
 use Rattle.slices.specs.Elements.{Elements}
 use Rattle.formula.specs.declared.evaluators.Cursor.{Cursor}
-use Rattle.formula.specs.declared.evaluators.Found.{Found}
-use Rattle.formula.specs.declared.evaluators.Found.TheVariants.{Read, Nothing}
 use Rattle.formula.specs.Letters.{Lent, is_lent, plus_byte, times_byte, over_byte, mark_byte}
 use Rattle.formula.specs.Grammar.{Sum, Product, Term, sum_text, product_text, term_text}
 use Rattle.formula.specs.Reading.{TextReading, none, IsReading, SumWithin, ProductWithin, TermWithin}
@@ -67,9 +66,13 @@ NoneAt products β k text at =
     (outer : List Front) (s : Sums) → run (is_lent β) (operand k outer (record { sums = s; products = first })) (drop at text) ≡ none
 NoneAt terms β k text at = (outer : List Front) (f : Front) → run (is_lent β) (operand k outer f) (drop at text) ≡ none
 
+-- what an evaluator finds: the place after it, or that the text is no formula
+abbrev pub Found : Type 0
+Found = Option Cursor
+
 abbrev pub OnFound : (Cursor → Type 0) → Type 0 → Found → Type 0
-OnFound Holds None (Read to) = Holds to
-OnFound Holds None Nothing = None
+OnFound Holds Missing (Some to) = Holds to
+OnFound Holds Missing None = Missing
 
 -- what is found at `from` is a formula of the kind K, after which none of the kind E goes on; or none is there
 pub record Finds (K E : Kind) (m : ℕ) (β : Lent) (k : ℕ) (text : List ℕ) (from : Cursor) (value : List ℕ) (r : Found) : Type 0 where
@@ -79,9 +82,9 @@ pub record Finds (K E : Kind) (m : ℕ) (β : Lent) (k : ℕ) (text : List ℕ) 
 pub record Moves (at : ℕ) (r : Found) : Type 0 where
   pub moves : OnFound (λ to. at < to.at) (Unit {0}) r
 
--- the whole text worked out: the number that is due by its reading, and its block where that is 0
-pub record Worked (m : ℕ) (text : List ℕ) (β : Lent) (number : ℕ) (value : List ℕ) : Type 0 where
+-- the whole text worked out: the refusal that is due by its reading, and its block where there is none
+pub record Worked (m : ℕ) (text : List ℕ) (β : Lent) (outcome : Outcome) (value : List ℕ) : Type 0 where
   pub reading : TextReading
   pub right : IsReading β text reading
-  pub due : number ≡ fault (reading_rules m β reading)
-  pub worth : number ≡ 0 → value ≡ reading_block m β reading
+  pub due : outcome ≡ tested (fault (reading_rules m β reading))
+  pub worth : outcome ≡ Done → value ≡ reading_block m β reading

@@ -1,4 +1,5 @@
 pub mod Letters
+pub mod Lending
 pub mod Grammar
 pub mod Reading
 pub mod Value

@@ -5,15 +5,18 @@
 // first.
 ghost use Rattle.std.specs.Prelude.{◌≡◌, true, ◌||◌, [], ◌∷◌, ℕ, ◌+◌, ◌<◌, ◌^◌, eqb, length, get_or};
 ghost use Rattle.refusals.specs.Rules.{◌unless◌, fault};
+ghost use Rattle.refusals.specs.Outcome.{tested};
 ghost use Rattle.field.specs.Gf.{Width};
 ghost use Rattle.slices.specs.Elements.{Elements};
 ghost use Rattle.formula.specs.declared.evaluators.Cursor.{Cursor};
-ghost use Rattle.formula.specs.Letters.{Lent, lending, plus_byte, times_byte, over_byte};
+ghost use Rattle.formula.specs.Letters.{Lent, plus_byte, times_byte, over_byte};
+ghost use Rattle.formula.specs.Lending.{lent};
 ghost use Rattle.formula.specs.Callers.{Ready};
 ghost use Rattle.formula.specs.Evaluated.{sums, products, terms, Held, Ends, Finds, Moves};
 
-use crate::values;
+use crate::values::{self, Blocks};
 use field::Elem;
+use refusals::{Refusal, Rule};
 use slices::LONGEST;
 
 // A place in the text, and whether every inverse that was asked for before it exists.
@@ -23,21 +26,11 @@ pub struct Cursor {
     pub exists: bool,
 }
 
-// What an evaluator finds: the place after it, or that the text is no formula.
-#[derive(Clone, Copy)]
-pub enum Found {
-    Read(Cursor),
-    Nothing,
-}
-
 // The byte at a place, and 0 past the end.
 fn byte_at(text: &[u8], at: usize) -> u8
     ensures { result ≡ get_or text.now at 0 }
 {
-    if at < text.len() {
-        return text[at];
-    }
-    0
+    text.get(at).copied().unwrap_or(0)
 }
 
 // The place after a byte.
@@ -58,36 +51,27 @@ fn is_operator(byte: u8) -> bool
     (byte == b'*') | (byte == b'/')
 }
 
-// Each evaluator reads the text from a place on and puts the block of what it reads into `value`; `brackets` may still be opened.
+// Each evaluator reads the text from a place on, puts the block of what it reads into `value`, and answers the place after it, or None where the text is
+// no formula; `brackets` may still be opened.
 #[cycle(evaluators)]
 pub fn sum(
     m: u32,
     text: &[u8],
-    a: &[Elem],
-    b: &[Elem],
-    c: &[Elem],
-    d: &[Elem],
+    blocks: &Blocks,
     brackets: u32,
     from: Cursor,
     value: &mut [Elem],
-) -> Found
-    requires { Ready m (lending a.now b.now c.now d.now) (length value.old) }
-    ensures { Finds sums sums m (lending a.now b.now c.now d.now) brackets
+) -> Option<Cursor>
+    requires { Ready m (lent blocks.now) (length value.old) }
+    ensures { Finds sums sums m (lent blocks.now) brackets
         text.now from value.new result }
 {
-    let found = product(m, text, a, b, c, d, brackets, from, value);
-    let Found::Read(first) = found else {
-        return Found::Nothing;
-    };
-    let mut cursor = first;
+    let mut cursor = product(m, text, blocks, brackets, from, value)?;
+    // Nothing counts here: the cursor moves as far as a product is read.
     while byte_at(text, cursor.at) == b'+' {
-        let more = add_product(m, text, a, b, c, d, brackets, cursor, value);
-        let Found::Read(next) = more else {
-            return Found::Nothing;
-        };
-        cursor = next;
+        cursor = add_product(m, text, blocks, brackets, cursor, value)?;
     }
-    Found::Read(cursor)
+    Some(cursor)
 }
 
 // The product after a +, added to the sum that stands before it.
@@ -95,28 +79,25 @@ pub fn sum(
 fn add_product(
     m: u32,
     text: &[u8],
-    a: &[Elem],
-    b: &[Elem],
-    c: &[Elem],
-    d: &[Elem],
+    blocks: &Blocks,
     brackets: u32,
     from: Cursor,
     value: &mut [Elem],
-) -> Found
-    requires ready { Ready m (lending a.now b.now c.now d.now) (length value.old) }
+) -> Option<Cursor>
+    requires ready { Ready m (lent blocks.now) (length value.old) }
     requires at_value { get_or text.now from.at 0 ≡ plus_byte }
     ensures finds { (start : Cursor)
-        → Held sums m (lending a.now b.now c.now d.now) brackets
+        → Held sums m (lent blocks.now) brackets
         text.now start from value.old
-        → Finds sums products m (lending a.now b.now c.now d.now) brackets
+        → Finds sums products m (lent blocks.now) brackets
         text.now start value.new result }
     ensures moves { Moves from.at result }
 {
     let mut room: [Elem; LONGEST] = [0; LONGEST];
     let s = value.len();
-    let found = product(m, text, a, b, c, d, brackets, after(from), &mut room[..s]);
+    let found = product(m, text, blocks, brackets, after(from), &mut room[..s]);
     // Where nothing was found, what the value becomes is of no use to anyone.
-    values::add(value, &room[..s]);
+    dyadic::add(value, &room[..s]);
     found
 }
 
@@ -124,31 +105,21 @@ fn add_product(
 fn product(
     m: u32,
     text: &[u8],
-    a: &[Elem],
-    b: &[Elem],
-    c: &[Elem],
-    d: &[Elem],
+    blocks: &Blocks,
     brackets: u32,
     from: Cursor,
     value: &mut [Elem],
-) -> Found
-    requires { Ready m (lending a.now b.now c.now d.now) (length value.old) }
-    ensures { Finds products products m (lending a.now b.now c.now d.now) brackets
+) -> Option<Cursor>
+    requires { Ready m (lent blocks.now) (length value.old) }
+    ensures { Finds products products m (lent blocks.now) brackets
         text.now from value.new result }
 {
-    let found = term(m, text, a, b, c, d, brackets, from, value);
-    let Found::Read(first) = found else {
-        return Found::Nothing;
-    };
-    let mut cursor = first;
+    let mut cursor = term(m, text, blocks, brackets, from, value)?;
+    // As in `sum`, as far as a term is read.
     while is_operator(byte_at(text, cursor.at)) {
-        let more = multiply_term(m, text, a, b, c, d, brackets, cursor, value);
-        let Found::Read(next) = more else {
-            return Found::Nothing;
-        };
-        cursor = next;
+        cursor = multiply_term(m, text, blocks, brackets, cursor, value)?;
     }
-    Found::Read(cursor)
+    Some(cursor)
 }
 
 // The term after a * or a /, by which the product that stands before it is multiplied or divided.
@@ -156,36 +127,30 @@ fn product(
 fn multiply_term(
     m: u32,
     text: &[u8],
-    a: &[Elem],
-    b: &[Elem],
-    c: &[Elem],
-    d: &[Elem],
+    blocks: &Blocks,
     brackets: u32,
     from: Cursor,
     value: &mut [Elem],
-) -> Found
-    requires ready { Ready m (lending a.now b.now c.now d.now) (length value.old) }
+) -> Option<Cursor>
+    requires ready { Ready m (lent blocks.now) (length value.old) }
     requires over_byte_value { ((eqb (get_or text.now from.at 0) times_byte || eqb (get_or text.now from.at 0) over_byte) ≡ true) × Elements m value.old }
     ensures finds { (start : Cursor)
-        → Held products m (lending a.now b.now c.now d.now) brackets
+        → Held products m (lent blocks.now) brackets
         text.now start from value.old
-        → Finds products terms m (lending a.now b.now c.now d.now) brackets
+        → Finds products terms m (lent blocks.now) brackets
         text.now start value.new result }
     ensures moves { Moves from.at result }
 {
     let mut room: [Elem; LONGEST] = [0; LONGEST];
     let s = value.len();
-    let found = term(m, text, a, b, c, d, brackets, after(from), &mut room[..s]);
-    let Found::Read(end) = found else {
-        return Found::Nothing;
-    };
+    let end = term(m, text, blocks, brackets, after(from), &mut room[..s])?;
     let times = byte_at(text, from.at) == b'*';
     if times {
         values::multiply(m, value, &mut room[..s]);
-        return Found::Read(end);
+        return Some(end);
     }
     let exists = values::divide(m, value, &mut room[..s]);
-    Found::Read(Cursor {
+    Some(Cursor {
         at: end.at,
         exists: end.exists & exists,
     })
@@ -212,49 +177,43 @@ fn marks(m: u32, text: &[u8], from: Cursor, value: &mut [Elem]) -> Cursor
 fn term(
     m: u32,
     text: &[u8],
-    a: &[Elem],
-    b: &[Elem],
-    c: &[Elem],
-    d: &[Elem],
+    blocks: &Blocks,
     brackets: u32,
     from: Cursor,
     value: &mut [Elem],
-) -> Found
-    requires { Ready m (lending a.now b.now c.now d.now) (length value.old) }
-    ensures { Finds terms terms m (lending a.now b.now c.now d.now) brackets
+) -> Option<Cursor>
+    requires { Ready m (lent blocks.now) (length value.old) }
+    ensures { Finds terms terms m (lent blocks.now) brackets
         text.now from value.new result }
 {
     let byte = byte_at(text, from.at);
     if byte != b'(' {
-        if !values::letter(byte, a, b, c, d, value) {
-            return Found::Nothing;
+        if !values::letter(byte, blocks, value) {
+            return None;
         }
-        return Found::Read(marks(m, text, after(from), value));
+        return Some(marks(m, text, after(from), value));
     }
     if brackets == 0 {
-        return Found::Nothing;
+        return None;
     }
-    let found = sum(m, text, a, b, c, d, brackets - 1, after(from), value);
-    let Found::Read(inner) = found else {
-        return Found::Nothing;
-    };
+    let inner = sum(m, text, blocks, brackets - 1, after(from), value)?;
     if byte_at(text, inner.at) != b')' {
-        return Found::Nothing;
+        return None;
     }
-    Found::Read(marks(m, text, after(inner), value))
+    Some(marks(m, text, after(inner), value))
 }
 
-// The number that refuses a text of this length that was read up to the cursor, or 0.
-pub fn due(end: Cursor, length: usize) -> u32
-    ensures { result ≡ fault ((16 unless eqb end.at length) ∷ (9 unless end.exists) ∷ []) }
+// Whether a text of this length that was read up to the cursor is a formula, and every inverse that it asks for exists.
+pub fn check_end(end: Cursor, length: usize) -> Result<(), Refusal>
+    ensures { result ≡ tested (fault ((16 unless eqb end.at length) ∷ (9 unless end.exists) ∷ [])) }
 {
     let whole = end.at == length;
     let exists = end.exists;
     if !whole {
-        return refusals::NO_FORMULA;
+        return Err(Refusal(Rule::NoFormula));
     }
     if !exists {
-        return refusals::SINGULAR;
+        return Err(Refusal(Rule::Singular));
     }
-    0
+    Ok(())
 }

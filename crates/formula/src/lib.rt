@@ -1,24 +1,27 @@
 // Formulas of blocks, as the people who design looms type them: A+B*C'. Letters A to D stand for blocks that are lent, ' after a term is its inverse,
 // * and / bind before +, and round brackets hold a whole formula again.
 //
-// The call of this file takes any input: what is out of range is refused by its number, and the lent buffer is written only where the call is Done.
+// The call of this file takes any input: what is out of range is refused by its number, and the lent buffer is written only where the call is Ok.
 #![tactic(auto)]
 
 mod evaluators;
 mod values;
 
 ghost use Rattle.std.specs.Prelude.{◌≡◌, length};
+ghost use Rattle.refusals.specs.Outcome.{tested};
 ghost use Rattle.field.specs.Gf.{Width};
 ghost use Rattle.slices.specs.Elements.{all_elements};
 ghost use Rattle.formula.specs.Letters.{lending};
+ghost use Rattle.formula.specs.Lending.{lent};
 ghost use Rattle.formula.specs.Callers.{Ready};
 ghost use Rattle.formula.specs.Answers.{fits_buffer, every, lent_fault, Answered};
 ghost use Rattle.formula.specs.Evaluated.{Worked};
 
-use evaluators::{Cursor, Found};
+use evaluators::Cursor;
 use field::Elem;
-use refusals::Outcome;
+use refusals::{Refusal, Rule};
 use slices::{LONGEST, all_elements};
+use values::Blocks;
 
 // The longest text, in bytes.
 const LONGEST_TEXT: usize = 128;
@@ -35,87 +38,76 @@ pub fn formula(
     c: &[Elem],
     d: &[Elem],
     out: &mut [Elem],
-) -> Outcome
+) -> Result<(), Refusal>
     ensures { Answered m text.now (lending a.now b.now c.now d.now) out.old result
         out.new }
 {
-    let number = lent_fault(m, a, b, c, d, out.len());
-    if number != 0 {
-        return Outcome::Refused(number);
-    }
+    let blocks = Blocks { a, b, c, d };
+    check_lent(m, &blocks, out.len())?;
     let mut value: [Elem; LONGEST] = [0; LONGEST];
     let s = out.len();
-    let number = evaluate(m, text, a, b, c, d, &mut value[..s]);
-    if number != 0 {
-        return Outcome::Refused(number);
-    }
-    slices::copy(&value[..s], out);
-    Outcome::Done
+    evaluate(m, text, &blocks, &mut value[..s])?;
+    out.copy_from_slice(&value[..s]);
+    Ok(())
 }
 
-// The number that refuses the text as a formula, or an inverse that it asks for, or 0; the block is then the value.
-fn evaluate(
-    m: u32,
-    text: &[u8],
-    a: &[Elem],
-    b: &[Elem],
-    c: &[Elem],
-    d: &[Elem],
-    value: &mut [Elem],
-) -> u32
-    requires { Ready m (lending a.now b.now c.now d.now) (length value.old) }
-    ensures { Worked m text.now (lending a.now b.now c.now d.now) result
+// Whether the text is a formula, and every inverse that it asks for exists; the block is then the value.
+fn evaluate(m: u32, text: &[u8], blocks: &Blocks, value: &mut [Elem]) -> Result<(), Refusal>
+    requires { Ready m (lent blocks.now) (length value.old) }
+    ensures { Worked m text.now (lent blocks.now) result
         value.new }
 {
     if LONGEST_TEXT < text.len() {
-        return refusals::NO_FORMULA;
+        return Err(Refusal(Rule::NoFormula));
     }
     let start = Cursor {
         at: 0,
         exists: true,
     };
-    let found = evaluators::sum(m, text, a, b, c, d, DEEPEST, start, value);
-    let Found::Read(end) = found else {
-        return refusals::NO_FORMULA;
+    let Some(end) = evaluators::sum(m, text, blocks, DEEPEST, start, value) else {
+        return Err(Refusal(Rule::NoFormula));
     };
-    evaluators::due(end, text.len())
+    evaluators::check_end(end, text.len())
 }
 
-// The number that refuses a width, the blocks that are lent and the length n of the buffer for the result, or 0.
-fn lent_fault(m: u32, a: &[Elem], b: &[Elem], c: &[Elem], d: &[Elem], n: usize) -> u32
-    ensures { result ≡ lent_fault m (lending a.now b.now c.now d.now) n }
+// Whether a width, the blocks that are lent and the length n of the buffer for the result are what they should be.
+fn check_lent(m: u32, blocks: &Blocks, n: usize) -> Result<(), Refusal>
+    ensures { result ≡ tested (lent_fault m (lent blocks.now) n) }
 {
     if !field::internal::is_width(m) {
-        return refusals::WIDTH;
+        return Err(Refusal(Rule::Width));
     }
     if !slices::is_power(n) {
-        return refusals::LENGTH;
+        return Err(Refusal(Rule::Length));
     }
-    if !all_fit(a, b, c, d, n) {
-        return refusals::LENGTH;
+    if !all_fit(blocks, n) {
+        return Err(Refusal(Rule::Length));
     }
-    if !all_in_field(m, a, b, c, d) {
-        return refusals::RANGE;
+    if !all_in_field(m, blocks) {
+        return Err(Refusal(Rule::Range));
     }
-    0
+    Ok(())
 }
 
-fn all_fit(a: &[Elem], b: &[Elem], c: &[Elem], d: &[Elem], n: usize) -> bool
-    ensures { result ≡ every (fits_buffer n) (lending a.now b.now c.now d.now) }
+fn all_fit(blocks: &Blocks, n: usize) -> bool
+    ensures { result ≡ every (fits_buffer n) (lent blocks.now) }
 {
-    fits(a, n) & fits(b, n) & fits(c, n) & fits(d, n)
+    fits(blocks.a, n) & fits(blocks.b, n) & fits(blocks.c, n) & fits(blocks.d, n)
 }
 
-fn all_in_field(m: u32, a: &[Elem], b: &[Elem], c: &[Elem], d: &[Elem]) -> bool
+fn all_in_field(m: u32, blocks: &Blocks) -> bool
     requires { Width m }
-    ensures { result ≡ every (all_elements m) (lending a.now b.now c.now d.now) }
+    ensures { result ≡ every (all_elements m) (lent blocks.now) }
 {
-    all_elements(m, a) & all_elements(m, b) & all_elements(m, c) & all_elements(m, d)
+    all_elements(m, blocks.a)
+        & all_elements(m, blocks.b)
+        & all_elements(m, blocks.c)
+        & all_elements(m, blocks.d)
 }
 
 // Whether a block is as long as the buffer, or not lent.
 fn fits(a: &[Elem], n: usize) -> bool
     ensures { result ≡ fits_buffer n a.now }
 {
-    (a.len() == 0) | (a.len() == n)
+    a.is_empty() | (a.len() == n)
 }

@@ -1,10 +1,10 @@
 // Blocks worked in place, as the evaluators need it: the result takes the place of `value`.
-ghost use Rattle.std.specs.Prelude.{◌≡◌, true, not, ℕ, eqb, length};
+ghost use Rattle.std.specs.Prelude.{◌≡◌, true, not, eqb, length};
 ghost use Rattle.field.specs.Gf.{Width, gf};
 ghost use Rattle.slices.specs.Elements.{Elements};
-ghost use Rattle.dyadic.specs.Block.{block_sum, block_product, block_inverse};
+ghost use Rattle.dyadic.specs.Block.{block_product, block_inverse};
 ghost use Rattle.dyadic.specs.Callers.{Factors};
-ghost use Rattle.formula.specs.Letters.{lending};
+ghost use Rattle.formula.specs.Lending.{lent};
 ghost use Rattle.dyadic.specs.Invertible.{is_invertible};
 ghost use Rattle.formula.specs.Callers.{Sized, Fetched};
 
@@ -12,16 +12,25 @@ use field::Elem;
 use field::internal::product;
 use slices::LONGEST;
 
+// The blocks that are lent for the letters; a block that is not lent is an empty slice.
+#[derive(Clone, Copy)]
+pub struct Blocks<'a> {
+    pub a: &'a [Elem],
+    pub b: &'a [Elem],
+    pub c: &'a [Elem],
+    pub d: &'a [Elem],
+}
+
 // Whether the byte is a letter for which a block is lent, which is then the value.
-pub fn letter(byte: u8, a: &[Elem], b: &[Elem], c: &[Elem], d: &[Elem], value: &mut [Elem]) -> bool
-    requires { Sized (length value.old) (lending a.now b.now c.now d.now) }
-    ensures { Fetched (lending a.now b.now c.now d.now) byte value.new result }
+pub fn letter(byte: u8, blocks: &Blocks, value: &mut [Elem]) -> bool
+    requires { Sized (length value.old) (lent blocks.now) }
+    ensures { Fetched (lent blocks.now) byte value.new result }
 {
     match byte {
-        b'A' => fetch(a, value),
-        b'B' => fetch(b, value),
-        b'C' => fetch(c, value),
-        b'D' => fetch(d, value),
+        b'A' => fetch(blocks.a, value),
+        b'B' => fetch(blocks.b, value),
+        b'C' => fetch(blocks.c, value),
+        b'D' => fetch(blocks.d, value),
         _ => false,
     }
 }
@@ -31,21 +40,11 @@ fn fetch(block: &[Elem], value: &mut [Elem]) -> bool
     requires { not (eqb (length block.now) 0) ≡ true → length block.now ≡ length value.old }
     ensures { (result ≡ not (eqb (length block.now) 0)) × (result ≡ true → value.new ≡ block.now) }
 {
-    if block.len() == 0 {
+    if block.is_empty() {
         return false;
     }
-    slices::copy(block, value);
+    value.copy_from_slice(block);
     true
-}
-
-// The sum with another block, which is the same at every width.
-pub fn add(value: &mut [Elem], other: &[Elem])
-    requires { length other.now ≡ length value.old }
-    ensures { (m : ℕ) → value.new ≡ block_sum (gf m) value.old other.now }
-{
-    for i in 0..value.len() {
-        value[i] ^= other[i];
-    }
 }
 
 // The product with another block, which is written to on the way and is then as it was.
@@ -56,7 +55,7 @@ pub fn multiply(m: u32, value: &mut [Elem], other: &mut [Elem])
 {
     let mut room: [Elem; LONGEST] = [0; LONGEST];
     let s = value.len();
-    slices::copy(value, &mut room[..s]);
+    room[..s].copy_from_slice(value);
     dyadic::clear(value);
     dyadic::add_by_halves(m, &mut room[..s], other, value);
 }
@@ -69,8 +68,8 @@ pub fn invert(m: u32, value: &mut [Elem]) -> bool
 {
     let sum = dyadic::total(value);
     let factor = field::internal::inverse(m, product(m, sum, sum));
-    for i in 0..value.len() {
-        value[i] = product(m, value[i], factor);
+    for entry in value.iter_mut() {
+        *entry = product(m, *entry, factor);
     }
     sum != 0
 }

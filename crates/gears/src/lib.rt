@@ -5,16 +5,24 @@ ghost use Rattle.std.specs.Prelude.{◌≡◌, ◌≤◌, ◌<◌, length};
 ghost use Rattle.algebra.specs.Lists.{entry_of};
 ghost use Rattle.gears.specs.Rows.{is_row, row_bits, row_bit, row_message, gear_in, lamp_in, further_zero, is_row_message, lamp_of, lamp_number, row_of};
 
-// 01 numbers the lamps 0, 1 and 2.
-#[derive(Clone, Copy)]
+// The lamps, each with its number in 01.
+#[derive(Clone, Copy, Debug, PartialEq, Eq)]
 pub enum Lamp {
-    Dark,
-    Green,
-    Amber,
+    Dark = 0,
+    Green = 1,
+    Amber = 2,
+}
+
+impl From<Lamp> for u32 {
+    ghost from_gives = { λ lamp number. (number ≡ lamp_number lamp) × (number < 3) };
+
+    fn from(lamp: Lamp) -> u32 {
+        lamp as u32
+    }
 }
 
 // A gear, from neutral to the high neutral, and a lamp.
-#[derive(Clone, Copy)]
+#[derive(Clone, Copy, Debug, PartialEq, Eq)]
 pub struct Row {
     pub gear: u32,
     pub lamp: Lamp,
@@ -58,8 +66,8 @@ fn row_bit(gear: u32, lamp: u32, place: usize) -> u8
 pub fn place_row(gear: u32, lamp: u32, message: &mut [u8])
     ensures { message.new ≡ row_message (length message.old) gear lamp }
 {
-    for j in 0..message.len() {
-        message[j] = row_bit(gear, lamp, j);
+    for (j, bit) in message.iter_mut().enumerate() {
+        *bit = row_bit(gear, lamp, j);
     }
 }
 
@@ -89,12 +97,7 @@ fn no_further_bits(message: &[u8]) -> bool
     requires { row_bits ≤ length message.now }
     ensures { result ≡ further_zero message.now }
 {
-    for j in ROW_BITS..message.len() {
-        if message[j] != 0 {
-            return false;
-        }
-    }
-    true
+    message[ROW_BITS..].iter().all(|bit| *bit == 0)
 }
 
 // Whether the message is one of an allowed row.
@@ -112,17 +115,6 @@ fn lamp_of(number: u32) -> Lamp
         0 => Lamp::Dark,
         1 => Lamp::Green,
         _ => Lamp::Amber,
-    }
-}
-
-// The number of a lamp.
-pub fn lamp_number(lamp: Lamp) -> u32
-    ensures { (result ≡ lamp_number lamp) × (result < 3) }
-{
-    match lamp {
-        Lamp::Dark => 0,
-        Lamp::Green => 1,
-        Lamp::Amber => 2,
     }
 }
 

@@ -21,6 +21,7 @@ use columns::number_columns;
 use field::Elem;
 use fields::FIELD;
 use params::Parameters;
+use parity::Code;
 use slices::LONGEST;
 
 // The lengths of a listing's first line and of its others.
@@ -57,6 +58,7 @@ fn put_columns(h: &[Elem], support: &[Elem], roles: &[u8], at: usize, out: &mut 
         (joined (length h.now) (column_line h.now support.now roles.now)) }
 {
     let mut next = at;
+    // By index: it is printed, and three lists are read at it.
     for j in 0..h.len() {
         next = put_column(j, h, support, roles, next, out);
     }
@@ -91,7 +93,12 @@ fn code_roles(c: Parameters, h: &[Elem], roles: &mut [u8]) -> u32
     let n = c.n as usize;
     let mut columns: [Column; LONGEST] = [0; LONGEST];
     number_columns(n, &mut columns);
-    words::internal::roles(c, h, &columns[..n], roles)
+    let code = Code {
+        c,
+        h,
+        cols: &columns[..n],
+    };
+    words::internal::roles(&code, roles)
 }
 
 // The listing of an accepted code at the front of `out`. `support` and `roles` have n entries to work with.

@@ -5,8 +5,8 @@ use Rattle.fields.specs.Fields.{line_text}
 use Rattle.fields.specs.Over.{over}
 use Rattle.sheets.specs.Sheet.{sheet_parameters, sheet_h}
 use Rattle.sheets.specs.Fault.{sheet_rules, sheet_fault}
-use Rattle.refusals.specs.declared.Counted.{Counted}
-use Rattle.refusals.specs.declared.Counted.TheVariants.{Count, Refused}
+use Rattle.refusals.specs.Counted.{Counted}
+use Rattle.refusals.specs.Counted.{Count, Refused}
 use Rattle.lines.specs.Listing.{listing_text}
 
 -- a buffer too short for a text is refused by 2

@@ -16,7 +16,7 @@ use Rattle.sheets.specs.Sheet.{sheet_parameters, sheet_h}
 use Rattle.sheets.specs.Fault.{sheet_fault}
 use Rattle.sheets.specs.Laws.{sheet_accepted}
 use Rattle.lines.specs.Lengths.{length_listing}
-use Rattle.refusals.specs.declared.Counted.TheVariants.{Count, Refused}
+use Rattle.refusals.specs.Counted.{Count, Refused}
 use Rattle.lines.specs.Listing.{longest_listing}
 use Rattle.listing.specs.Answers.{room_rules, stored_answer, stored_after, sheet_listing, printed_text, printed_answer}
 

@@ -1,19 +1,21 @@
 -- The loops of this crate, each over the coefficients of a half, on plain numbers and lists: how each begins, what one turn makes of it, and what it
 -- ends with.
-use mathlib.Core.Path.{◌≡◌, refl, sym, ap, ap₂, ◌∙◌, subst}
-use mathlib.Core.List.{List}
+use mathlib.Core.Path.{◌≡◌, refl, sym, ap, ap₂, ◌∙◌, subst, subst₂}
+use mathlib.Core.List.{List, [], ◌∷◌, ◌++◌}
 use Prim.Native.Nat.{ℕ, zero, suc, ◌+◌, ◌-◌, ◌/◌, ◌<◌, ◌≤◌, ◌^◌}
-use native.Mathlib.Nat.{not-suc-le-zero, le_trans}
+use native.Mathlib.Nat.{not-suc-le-zero}
 use native.Mathlib.Decide.{dec_lt}
 use native.Mathlib.Numerals.{add-one}
 use native.Mathlib.Omega.{arith}
-use lib.ListN.{length, drop, set, length-set, get_or-append, get_or-eq_default}
+use lib.ListN.{length, take, drop, set, replicate, length-set, get_or-append, get_or-eq_default}
+use Rattle.std.specs.List.{IsLastAndRest}
+use Rattle.std.proofs.lemmas.List.{length-append, length-take-le, length-replicate, get_or-take, get_or-replicate, get_or_at, take_at, take-take}
 use lib.Seq.{get_or-set_same, get_or-set_other}
 use Rattle.algebra.specs.Field.{Laws}
 use Rattle.algebra.specs.FieldLaws.{mul-nought, add-nought}
 use Rattle.algebra.specs.Tabulate.{tabulate}
 use Rattle.algebra.specs.TabulateLaws.{length-tabulate, get_d_tabulate}
-use Rattle.algebra.specs.Filling.{filled, Filling, filling_start, filling_turn, filling_length, filling_index, filling_old}
+use Rattle.algebra.specs.Filling.{filled, Filling, filling_start, filling_turn, filling_length, filling_old, filling_end}
 use Rattle.algebra.specs.Xor.{◌⊕◌}
 use Rattle.field.specs.Gf.{Width, gf}
 use Rattle.field.proofs.GfLaws.{gf_laws}
@@ -103,7 +105,53 @@ module _ {m n : ℕ} (W : Width m) {l : List ℕ} (H : Half m n l) (y : ℕ) whe
   pub evaluate_empty : n ≡ 0 → (0 ≡ evaluate (gf m) l y) × (0 < 2 ^ m)
   evaluate_empty h = evaluate_end evaluate_none (omega arith)
 
+-- ---- the same with what is left of the list, of which the last is taken
+
+less : (l rest : List ℕ) (x : ℕ) {left : List ℕ} → left ≡ take (length left) l → left ≡ rest ++ x ∷ []
+    → (rest ≡ take (length rest) l) × (x ≡ entry_of l (length rest)) × (length left ≡ length rest + 1)
+less l rest x {left} front e =
+    let k = length rest in
+    let long : length left ≡ k + 1 = ap length e ∙ length-append rest (x ∷ []) in (
+      sym (take_at rest (x ∷ []) k refl) ∙ ap (take k) (sym e ∙ front) ∙ take-take k (length left) l (omega arith),
+      sym (get_or_at rest x [] 0 k refl) ∙ ap (entry_of_at k) (sym e ∙ front) ∙ get_or-take (length left) l k 0 (omega arith),
+      long,
+    )
+  where
+    entry_of_at : ℕ → List ℕ → ℕ
+    entry_of_at k l = entry_of l k
+
+pub record Walking (m n : ℕ) (l : List ℕ) (y value : ℕ) (left : List ℕ) : Type 0 where
+  pub front : left ≡ take (length left) l
+  pub evaluating : Evaluating m n l y value (length left)
+
+module _ {m n : ℕ} (W : Width m) {l : List ℕ} (H : Half m n l) (short : n ≤ half) (y : ℕ) {rest : List ℕ} (x : ℕ) where
+  pub walking_start : IsLastAndRest (take n l) x rest → Walking m n l y x rest
+  walking_start is =
+      let long : length (take n l) ≡ n = length-take-le n l (omega (arith, H.long)) in
+      let (front, highest, one) = less l rest x (ap (λ (k : ℕ). take k l) (sym long)) is.0 in
+      let down : n - 1 ≡ length rest = omega arith in
+      record {
+        front = front;
+        evaluating = subst₂ (Evaluating m n l y) (ap (entry_of l) down ∙ sym highest) down (evaluate_start W H y short (omega arith));
+      }
+
+  pub walking_turn : {left : List ℕ} {value v : ℕ} → Walking m n l y value left → left ≡ rest ++ x ∷ [] → v ≡ times m y value
+      → Walking m n l y (x ⊕ v) rest
+  walking_turn {left} {value} {v} K is e =
+      let (front, last, one) = less l rest x K.front is in
+      let down : length left - 1 ≡ length rest = omega arith in
+      record {
+        front = front;
+        evaluating = subst₂ (Evaluating m n l y) (ap (λ (k : ℕ). entry_of l k ⊕ v) down ∙ ap (λ (z : ℕ). z ⊕ v) (sym last)) down
+            (evaluate_turn W H y short K.evaluating (omega arith) e);
+      }
+
 -- ---- a loop that fills a half as far as it can be other than nought fills it all
+
+-- the front of a list that is filled, with the rest as it was
+filled_front : {f : ℕ → ℕ} {h n : ℕ} {old now : List ℕ} → length old ≡ h → n ≤ h → now ≡ tabulate n f → Filling f h old (now ++ drop n old) n
+unfolding filled
+filled_front {n = n} {old = old} long l e = record { bound = l; long = long; so_far = ap (λ (x : List ℕ). x ++ drop n old) e }
 
 filled_all : {f : ℕ → ℕ} {n : ℕ} {old now : List ℕ} {i : ℕ} → Filling f n old now i → ((j : ℕ) → i ≤ j → entry_of old j ≡ f j)
     → (j : ℕ) → entry_of now j ≡ f j
@@ -122,21 +170,24 @@ filled_all {f} {n} {old} {now} {i} G rest j = decided (dec_lt j i)
 abbrev pub combined : ℕ → ℕ → ℕ → List ℕ → List ℕ → ℕ → ℕ
 combined m a b pivot other k = times m a (entry_of other k) ⊕ times m b (entry_of pivot k)
 
-module _ {m n : ℕ} (W : Width m) (a b : ℕ) {pivot other : List ℕ} (P : Half m half pivot) (O : Half m n other) where
-  pub combine_start : Filling (combined m a b pivot other) half other other 0
-  combine_start = filling_start (combined m a b pivot other) half other O.long
+module _ {m n : ℕ} (W : Width m) (short : n ≤ half) (a b : ℕ) {pivot other : List ℕ} (P : Half m half pivot) (O : Half m n other) where
+  pub combine_start : Filling (combined m a b pivot other) n (take n other) (take n other) 0
+  combine_start = filling_start (combined m a b pivot other) n (take n other) (length-take-le n other (omega (arith, O.long)))
 
-  module _ {now : List ℕ} {k : ℕ} (G : Filling (combined m a b pivot other) half other now k) where
-    pub combine_element : entry_of now k < 2 ^ m
-    combine_element = subst (λ (x : ℕ). x < 2 ^ m) (sym (filling_old G k 0 (omega arith))) (O.inside k)
+  module _ {items : List ℕ} {k : ℕ} (G : Filling (combined m a b pivot other) n (take n other) items k) where
+    -- the coefficient at k is still there
+    there : k < n → entry_of items k ≡ entry_of other k
+    there l = filling_old G k 0 (omega arith) ∙ get_or-take n other k 0 l
 
-    pub combine_turn : {u v : ℕ} → k < half → u ≡ times m a (entry_of now k) → v ≡ times m b (entry_of pivot k)
-        → Filling (combined m a b pivot other) half other (set now k (u ⊕ v)) (k + 1)
-    combine_turn l eu ev =
-        filling_turn G l (ap₂ (λ (x y : ℕ). x ⊕ y) (eu ∙ ap (times m a) (filling_old G k 0 (omega arith))) ev)
+    pub combine_element : k < n → entry_of items k < 2 ^ m
+    combine_element l = subst (λ (x : ℕ). x < 2 ^ m) (sym (there l)) (O.inside k)
 
-    pub combine_end : ((j : ℕ) → n ≤ j → times m b (entry_of pivot j) ≡ 0) → n ≤ k → k ≤ n → Combined m n a b pivot other now
-    combine_end none low high =
+    pub combine_turn : {u v : ℕ} → k < n → u ≡ times m a (entry_of items k) → v ≡ times m b (entry_of pivot k)
+        → Filling (combined m a b pivot other) n (take n other) (set items k (u ⊕ v)) (k + 1)
+    combine_turn l eu ev = filling_turn G l (ap₂ (λ (x y : ℕ). x ⊕ y) (eu ∙ ap (times m a) (there l)) ev)
+
+    pub combine_end : ((j : ℕ) → n ≤ j → times m b (entry_of pivot j) ≡ 0) → n ≤ k → Combined m n a b pivot other (items ++ drop n other)
+    combine_end none low =
         record {
           shape =
               record {
@@ -155,8 +206,14 @@ module _ {m n : ℕ} (W : Width m) (a b : ℕ) {pivot other : List ℕ} (P : Hal
               (evaluate-half m W pivot (entry_of pivot) P.long (λ j. refl) y));
         }
       where
+        now : List ℕ
+        now = items ++ drop n other
+
+        whole : Filling (combined m a b pivot other) half other now n
+        whole = filled_front O.long short (filling_end G low)
+
         long : length now ≡ half
-        long = filling_length G ∙ O.long
+        long = filling_length whole ∙ O.long
 
         past : (j : ℕ) → n ≤ j → combined m a b pivot other j ≡ 0
         past j h =
@@ -164,49 +221,49 @@ module _ {m n : ℕ} (W : Width m) (a b : ℕ) {pivot other : List ℕ} (P : Hal
             ∙ mul-nought (gf m) (gf_laws m W) a
 
         entries : (j : ℕ) → entry_of now j ≡ combined m a b pivot other j
-        entries = filled_all G (λ j h. let g : n ≤ j = omega arith in O.ends j g ∙ sym (past j g))
+        entries = filled_all whole (λ j h. O.ends j h ∙ sym (past j h))
 
 -- ---- `raise`: `lower` is the coefficient before k, as it was
 
 abbrev pub lifted : ℕ → ℕ → List ℕ → ℕ → ℕ
 lifted m r old k = shifted 0 (entry_of old) k ⊕ times m r (entry_of old k)
 
-pub record Raising (m n r : ℕ) (old now : List ℕ) (lower k : ℕ) : Type 0 where
+pub record Raising (m n r : ℕ) (old items : List ℕ) (lower k : ℕ) : Type 0 where
   pub bound : k ≤ n + 1
   pub carried : lower ≡ shifted 0 (entry_of old) k
-  pub filling : Filling (lifted m r old) half old now k
+  pub filling : Filling (lifted m r old) (n + 1) (take (n + 1) old) items k
 
-module _ {m n : ℕ} (W : Width m) (r : ℕ) {old : List ℕ} (H : Half m n old) where
-  pub raise_start : Raising m n r old old 0 0
+module _ {m n : ℕ} (W : Width m) (room : n < half) (r : ℕ) {old : List ℕ} (H : Half m n old) where
+  pub raise_start : Raising m n r old (take (n + 1) old) 0 0
   unfolding shifted
-  raise_start = record { bound = omega arith; carried = refl; filling = filling_start (lifted m r old) half old H.long }
+  raise_start =
+      record {
+        bound = omega arith;
+        carried = refl;
+        filling = filling_start (lifted m r old) (n + 1) (take (n + 1) old) (length-take-le (n + 1) old (omega (arith, H.long)));
+      }
 
-  module _ {now : List ℕ} {lower k : ℕ} (R : Raising m n r old now lower k) where
+  module _ {items : List ℕ} {lower k : ℕ} (R : Raising m n r old items lower k) where
     -- the coefficient at k is still there
-    here : entry_of now k ≡ entry_of old k
-    here = filling_old R.filling k 0 (omega arith)
+    here : k < n + 1 → entry_of items k ≡ entry_of old k
+    here l = filling_old R.filling k 0 (omega arith) ∙ get_or-take (n + 1) old k 0 l
 
-    pub raise_element : entry_of now k < 2 ^ m
-    raise_element = subst (λ (x : ℕ). x < 2 ^ m) (sym here) (H.inside k)
+    pub raise_element : k < n + 1 → entry_of items k < 2 ^ m
+    raise_element l = subst (λ (x : ℕ). x < 2 ^ m) (sym (here l)) (H.inside k)
 
-    pub raise_index : n < half → k < n + 1 → k < length now
-    raise_index room l = filling_index R.filling (omega arith)
-
-    pub raise_turn : {v : ℕ} → n < half → k < n + 1 → v ≡ times m r (entry_of now k)
-        → Raising m n r old (set now k (lower ⊕ v)) (entry_of now k) (k + 1)
+    pub raise_turn : {v : ℕ} → k < n + 1 → v ≡ times m r (entry_of items k)
+        → Raising m n r old (set items k (lower ⊕ v)) (entry_of items k) (k + 1)
     unfolding shifted
-    raise_turn room l e =
+    raise_turn l e =
         record {
           bound = omega arith;
-          carried = here ∙ ap (shifted 0 (entry_of old)) (sym (add-one k));
-          filling =
-              filling_turn R.filling (omega arith)
-              (ap₂ (λ (x y : ℕ). x ⊕ y) R.carried (e ∙ ap (times m r) here));
+          carried = here l ∙ ap (shifted 0 (entry_of old)) (sym (add-one k));
+          filling = filling_turn R.filling l (ap₂ (λ (x y : ℕ). x ⊕ y) R.carried (e ∙ ap (times m r) (here l)));
         }
 
-    pub raise_end : n < half → n + 1 ≤ k → Lifted m n r old now
+    pub raise_end : n + 1 ≤ k → Lifted m n r old (items ++ drop (n + 1) old)
     unfolding shifted
-    raise_end room l =
+    raise_end l =
         record {
           shape =
               record {
@@ -223,8 +280,14 @@ module _ {m n : ℕ} (W : Width m) (r : ℕ) {old : List ℕ} (H : Half m n old)
               ∙ ap (times m (y ⊕ r)) (sym (evaluate-half m W old (entry_of old) H.long (λ j. refl) y));
         }
       where
+        now : List ℕ
+        now = items ++ drop (n + 1) old
+
+        whole : Filling (lifted m r old) half old now (n + 1)
+        whole = filled_front H.long (omega arith) (filling_end R.filling l)
+
         long : length now ≡ half
-        long = filling_length R.filling ∙ H.long
+        long = filling_length whole ∙ H.long
 
         top : entry_of old (longest / 2 + 1) ≡ 0
         top = H.ends (longest / 2 + 1) (omega arith)
@@ -240,26 +303,24 @@ module _ {m n : ℕ} (W : Width m) (r : ℕ) {old : List ℕ} (H : Half m n old)
             ∙ (gf_laws m W).nought_add (times m r 0) ∙ mul-nought (gf m) (gf_laws m W) r
 
         entries : (j : ℕ) → entry_of now j ≡ lifted m r old j
-        entries = filled_all R.filling (λ j h. let g : n + 1 ≤ j = omega arith in H.ends j (omega arith) ∙ sym (past j g))
+        entries = filled_all whole (λ j h. H.ends j (omega arith) ∙ sym (past j h))
 
 -- ---- `set_constant`
 
-pub constant_end : {old now : List ℕ} {k : ℕ} → Filling (λ j. 0) half old now k → half ≤ k → (c : ℕ) → Constant c (set now 0 c)
-constant_end {old} {now} {k} G l c =
+pub constant_end : {now : List ℕ} → now ≡ replicate half 0 → (c : ℕ) → Constant c (set now 0 c)
+constant_end {now} e c =
     record {
       long = length-set now 0 c ∙ long;
       lowest = get_or-set_same now 0 c 0 (subst (λ (n : ℕ). 0 < n) (sym long) (omega arith));
-      ends = λ j h. get_or-set_other now 0 j c 0 (apart j h) ∙ filled_all G (λ i g. past i (le_trans l g)) j;
+      ends = λ j h. get_or-set_other now 0 j c 0 (λ z. omega arith) ∙ ap (λ (l : List ℕ). entry_of l j) e ∙ nought j (dec_lt j half);
     }
   where
     long : length now ≡ half
-    long = filling_length G ∙ G.long
+    long = ap length e ∙ length-replicate {A = ℕ} half 0
 
-    apart : (j : ℕ) → 1 ≤ j → j ≡ 0 → ⊥
-    apart j h e = omega arith
-
-    past : (i : ℕ) → half ≤ i → entry_of old i ≡ 0
-    past i h = get_or-eq_default old 0 (subst (λ (n : ℕ). n ≤ i) (sym G.long) h)
+    nought : (j : ℕ) → Dec (j < half) → entry_of (replicate half 0) j ≡ 0
+    nought j (yes l) = get_or-replicate half j 0 0 l
+    nought j (no nl) = get_or-eq_default (replicate half 0) 0 {n = j} (omega (arith, length-replicate {A = ℕ} half 0))
 
 pub constant_value : (m : ℕ) → Width m → {c : ℕ} {l : List ℕ} → Constant c l → (y : ℕ) → evaluate (gf m) l y ≡ c
 constant_value m W {c} {l} C y =

@@ -220,7 +220,7 @@ module _ {m : ℕ} (W : Width m) {roots syndrome : List ℕ} {p : ℕ} {e o e2 o
         invariant = G.invariant;
       }
 
-  located_second : length roots < p → Located m roots syndrome e2 o2
+  pub located_second : length roots < p → Located m roots syndrome e2 o2
   located_second h =
       record {
         pair = pair_weaken small G.second;
@@ -233,7 +233,3 @@ module _ {m : ℕ} (W : Width m) {roots syndrome : List ℕ} {p : ℕ} {e o e2 o
     where
       small : 2 * length roots + 1 - p ≤ length roots
       small = omega arith
-
-  -- as copied into the buffers that are lent
-  pub located_copied : {e' o' : List ℕ} → length roots < p → e' ≡ e2 → o' ≡ o2 → Located m roots syndrome e' o'
-  located_copied h he ho = subst₂ (λ (x y : List ℕ). Located m roots syndrome x y) (sym he) (sym ho) (located_second h)

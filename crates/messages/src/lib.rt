@@ -1,55 +1,44 @@
 // The message columns of an accepted code, for any list of its columns, where place j of a word is column cols_j: a basis that says which they are
-// and what a word that carries a message holds elsewhere, and the number that refuses a message.
+// and what a word that carries a message holds elsewhere, and the test of a message.
 #![tactic(auto)]
 
-ghost use Rattle.std.specs.Prelude.{◌≡◌, ◌≤◌, length};
+ghost use Rattle.std.specs.Prelude.{◌≡◌};
 ghost use Rattle.refusals.specs.Rules.{fault};
+ghost use Rattle.refusals.specs.Outcome.{tested};
 ghost use Rattle.slices.specs.Bits.{all_bits};
-ghost use Rattle.basis.specs.Table.{Room};
-ghost use Rattle.parity.specs.Selected.{OnColumns};
+ghost use Rattle.parity.specs.OfCode.{OfCode};
 ghost use Rattle.messages.specs.CodeBasis.{MessageColumns, CodeBasis};
 ghost use Rattle.messages.specs.MessageRules.{message_rules};
 
-use basis::Column;
-use basis::elimination::parity_basis;
-use basis::packed::ROW;
-use field::Elem;
-use params::Parameters;
-use slices::{LONGEST, all_bits};
+use basis::elimination::{Basis, parity_basis};
+use parity::Code;
+use refusals::{Refusal, Rule};
+use slices::all_bits;
 
-// The basis of the code in `rows` and `leads`, and k, the number of message columns.
-pub fn code_basis(
-    c: Parameters,
-    h: &[Elem],
-    cols: &[Column],
-    rows: &mut [u64],
-    leads: &mut [u8],
-) -> usize
-    requires { OnColumns c h.now cols.now × Room (length cols.now) rows.old leads.old }
-    ensures { CodeBasis c h.now cols.now rows.new leads.new result }
+// The basis of the code, and k, the number of message columns.
+pub fn code_basis(code: &Code<'_>, basis: &mut Basis) -> usize
+    ensures { OfCode CodeBasis code.now basis.new.rows basis.new.leads result }
 {
-    let t = c.t as usize;
-    cols.len() - parity_basis(c.m, t, h, cols, rows, leads)
+    let t = code.c.t as usize;
+    code.cols.len() - parity_basis(code.c.m, t, code.h, code.cols, basis)
 }
 
-// The message columns, which are the free places of `leads`, and k.
-pub fn message_columns(c: Parameters, h: &[Elem], cols: &[Column], leads: &mut [u8]) -> usize
-    requires { OnColumns c h.now cols.now × (length cols.now ≤ length leads.old) }
-    ensures { MessageColumns c h.now cols.now leads.new result }
+// The message columns, which are the free places of the basis, and k.
+pub fn message_columns(code: &Code<'_>, basis: &mut Basis) -> usize
+    ensures { OfCode MessageColumns code.now basis.new.leads result }
 {
-    let mut rows: [u64; LONGEST * ROW] = [0; LONGEST * ROW];
-    code_basis(c, h, cols, &mut rows, leads)
+    code_basis(code, basis)
 }
 
-// The number for a message of the given length where k is due, and where `read` is to hold bits.
-pub fn message_fault(k: usize, long: usize, read: &[u8]) -> u32
-    ensures { result ≡ fault (message_rules k long (all_bits read.now)) }
+// Whether a message has the length k that is due, and `read`, where it is to hold bits, does.
+pub fn check_message(k: usize, long: usize, read: &[u8]) -> Result<(), Refusal>
+    ensures { result ≡ tested (fault (message_rules k long (all_bits read.now))) }
 {
     if long != k {
-        return refusals::LENGTH;
+        return Err(Refusal(Rule::Length));
     }
     if !all_bits(read) {
-        return refusals::BIT;
+        return Err(Refusal(Rule::Bit));
     }
-    0
+    Ok(())
 }

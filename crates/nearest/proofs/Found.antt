@@ -2,13 +2,12 @@
 --
 -- So the word with these places turned is that code word, and it can be tested without knowing it: it is a code word and few places were turned,
 -- or no code word is near.
-use Rattle.std.specs.Prelude.{◌≡◌, ◌⊎◌, Bool, true, false, List, eqb, length}
+use Rattle.std.specs.Prelude.{◌≡◌, ◌⊎◌, Bool, true, false, List, length}
 use Rattle.std.proofs.Math.Path.{refl}
 use Rattle.std.proofs.Common.{sym, ap, ◌∙◌, subst, inl, inr, arith, eqb-true, eq-eqb}
 use Rattle.std.proofs.lemmas.Bool.{false≢true}
 use Prim.Native.Nat.{ℕ, ◌<◌, ◌≤◌}
 use Rattle.algebra.specs.Flags.{refuted}
-use Rattle.algebra.specs.Lists.{entry_of}
 use Rattle.algebra.specs.Locator.{Explains, errors_are_roots, roots_are_errors}
 use Rattle.algebra.specs.Locator.Pass.{Invariant}
 use Rattle.algebra.specs.Locator.Split.{Halves, value}
@@ -17,7 +16,6 @@ use Rattle.field.specs.Gf.{gf}
 use Rattle.slices.specs.Bits.{IsBits}
 use Rattle.params.specs.declared.Parameters.{Parameters}
 use Rattle.params.specs.Code.{Accepted}
-use Rattle.signature.specs.Signature.{support_at}
 use Rattle.parity.specs.Selected.{Selected}
 use Rattle.parity.specs.Word.{syndrome_at, is_code_word}
 use Rattle.nearest.proofs.Errors.{z, L, error_place, F, in_support, apart, same_place, explains}

@@ -5,11 +5,8 @@ use Rattle.algebra.specs.Locator.Pass.{Invariant}
 use Rattle.algebra.specs.Locator.Split.{Halves, value}
 use Rattle.algebra.specs.Places.{count}
 use Rattle.field.specs.Gf.{gf}
-use Rattle.slices.specs.Bits.{IsBits}
 use Rattle.params.specs.declared.Parameters.{Parameters}
 use Rattle.signature.specs.Signature.{root_at, support_at}
-use Rattle.signature.specs.Inverses.{Inverted}
-use Rattle.parity.specs.Selected.{OnColumns}
 use Rattle.parity.specs.Word.{syndrome_at}
 use Rattle.locator.specs.Coefficients.{halves_of}
 use Rattle.nearest.specs.Turned.{turned}
@@ -21,12 +18,6 @@ root_place m even odd support cols j = eqb (value (gf m) (halves_of (gf m) even 
 -- the support of place j is a root of the pair
 unfoldable pub is_error : Parameters → List ℕ → List ℕ → Halves ℕ → ℕ → Bool
 is_error c h cols pair j = eqb (value (gf c.m) pair (support_at (gf c.m) c.omega (entry_of h) (entry_of cols j))) 0
-
--- a code with its inverses, columns of it, and a word received
-pub record Received (c : Parameters) (h inverses cols received : List ℕ) : Type 0 where
-  pub code : OnColumns c h cols
-  pub inverted : Inverted c.m h inverses
-  pub bits : IsBits (length cols) received
 
 -- the word received with the bits turned where the support is a root of what the pass leaves, and the number of them
 pub record Candidate (c : Parameters) (h cols received : List ℕ) (number : ℕ) (word : List ℕ) : Type 0 where

@@ -1,4 +1,4 @@
--- The loop of `internal::syndrome_at`, over plain numbers and lists: the sum over the places passed.
+-- The loop of `syndromes::syndrome_at`, over plain numbers and lists: the sum over the places passed.
 use mathlib.Core.Path.{◌≡◌, refl, sym, ap, ap₂, ◌∙◌}
 use mathlib.Core.List.{List}
 use Prim.Native.Nat.{ℕ, zero, suc, ◌+◌, ◌*◌, ◌^◌, ◌<◌, ◌≤◌}

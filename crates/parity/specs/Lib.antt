@@ -8,3 +8,4 @@ pub mod Encoding
 pub mod SameMatrix
 pub mod SameMatrixLaws
 pub mod Zero
+pub mod OfCode

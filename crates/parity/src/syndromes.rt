@@ -13,8 +13,8 @@ pub fn syndrome_at(m: u32, h: &[Elem], cols: &[Column], word: &[u8], i: usize) -
     ensures { (result ≡ signature_sum m h.now cols.now word.now i) × (result < 2 ^ m) }
 {
     let mut sum: Elem = 0;
-    for j in 0..cols.len() {
-        let at = i ^ cols[j] as usize;
+    for (j, column) in cols.iter().enumerate() {
+        let at = i ^ *column as usize;
         sum ^= word[j] as Elem * h[at];
     }
     sum
@@ -25,7 +25,7 @@ pub fn syndrome(m: u32, h: &[Elem], cols: &[Column], word: &[u8], out: &mut [Ele
     requires { Summed m h.now cols.now word.now × Reaches (length out.old) h.now cols.now }
     ensures { out.new ≡ tabulate (length out.old) (signature_sum m h.now cols.now word.now) }
 {
-    for i in 0..out.len() {
-        out[i] = syndrome_at(m, h, cols, word, i);
+    for (i, sum) in out.iter_mut().enumerate() {
+        *sum = syndrome_at(m, h, cols, word, i);
     }
 }

@@ -1,90 +1,88 @@
-// Why and how a call ends: the numbers of 01's table, and the outcome of a call whose result stands in lent buffers, or that counts.
+// Why a call is refused: the rules of 01's table.
 #![tactic(auto)]
 
 ghost use Rattle.std.specs.Prelude.{◌≡◌};
-ghost use Rattle.refusals.specs.Rules.{unless_refused};
-ghost use Rattle.refusals.specs.declared.Outcome.TheVariants.{Done, Refused};
+ghost use Rattle.refusals.specs.Numbers.{number};
 
-// m is no width of the table.
-pub const WIDTH: u32 = 1;
+use std::error::Error;
+use std::fmt;
+use std::marker::Model;
 
-// A length is not what is asked for.
-pub const LENGTH: u32 = 2;
-
-// An element or an offset is 2^m or more: 01's "stranger".
-pub const RANGE: u32 = 3;
-
-// A zero in a signature: 01's "blank".
-pub const ZERO: u32 = 4;
-
-// The rule for 1/h fails for some i and j: 01's "crossed".
-pub const NOT_LINEAR: u32 = 5;
-
-// Two equal entries in a signature: 01's "twin".
-pub const REPEATED: u32 = 6;
-
-// t is no number of roots: 01's "rows".
-pub const ROOT_COUNT: u32 = 7;
-
-// A byte of a word, a message, a step's marks or the list of who waits is neither 0 nor 1.
-pub const BIT: u32 = 8;
-
-// A block that has no inverse: 01's "dead block".
-pub const SINGULAR: u32 = 9;
-
-// No code word is near enough.
-pub const TOO_FAR: u32 = 10;
-
-// A gear or a lamp outside the rules.
-pub const NO_SUCH_ROW: u32 = 11;
-
-// Too few message bits for a row: 01's "narrow".
-pub const TOO_FEW_BITS: u32 = 12;
-
-// A text that is no sheet.
-pub const NO_SHEET: u32 = 13;
-
-// A block of a selection that the code does not have, or that is named twice.
-pub const NO_SUCH_BLOCK: u32 = 14;
-
-// A shift of a selection that is t or more.
-pub const SHIFT: u32 = 15;
-
-// A text that is no formula, or that names a block that is not lent.
-pub const NO_FORMULA: u32 = 16;
-
-// Some of an essence's values, one or more, sum to zero.
-pub const DEPENDENT: u32 = 17;
-
-// The number of senders, of repairs or of a sender is out of range.
-pub const SENDER: u32 = 18;
-
-// A word is offered while that sender has one waiting.
-pub const WAITING: u32 = 19;
-
-// A mark of a place that is neither 0 nor 1, or a hidden check column.
-pub const HIDDEN: u32 = 20;
-
-// The end of a call whose result stands in lent buffers: they are written only where it is Done, but for the counts of a ride.
-#[derive(Clone, Copy)]
-pub enum Outcome {
-    Done,
-    Refused(u32),
+// The rules that a call may break, each with its number in 01's table.
+#[derive(Clone, Copy, Debug, PartialEq, Eq)]
+pub enum Rule {
+    // m is no width of the table.
+    Width = 1,
+    // A length is not what is asked for.
+    Length = 2,
+    // An element or an offset is 2^m or more: 01's "stranger".
+    Range = 3,
+    // A zero in a signature: 01's "blank".
+    Zero = 4,
+    // The rule for 1/h fails for some i and j: 01's "crossed".
+    NotLinear = 5,
+    // Two equal entries in a signature: 01's "twin".
+    Repeated = 6,
+    // t is no number of roots: 01's "rows".
+    RootCount = 7,
+    // A byte of a word, a message, a step's marks or the list of who waits is neither 0 nor 1.
+    Bit = 8,
+    // A block that has no inverse: 01's "dead block".
+    Singular = 9,
+    // No code word is near enough.
+    TooFar = 10,
+    // A gear or a lamp outside the rules.
+    NoSuchRow = 11,
+    // Too few message bits for a row: 01's "narrow".
+    TooFewBits = 12,
+    // A text that is no sheet.
+    NoSheet = 13,
+    // A block of a selection that the code does not have, or that is named twice.
+    NoSuchBlock = 14,
+    // A shift of a selection that is t or more.
+    Shift = 15,
+    // A text that is no formula, or that names a block that is not lent.
+    NoFormula = 16,
+    // Some of an essence's values, one or more, sum to zero.
+    Dependent = 17,
+    // The number of senders, of repairs or of a sender is out of range.
+    Sender = 18,
+    // A word is offered while that sender has one waiting.
+    Waiting = 19,
+    // A mark of a place that is neither 0 nor 1, or a hidden check column.
+    Hidden = 20,
 }
 
-// The end of a call that counts: message columns, or the bytes of a text at the front of its buffer.
-#[derive(Clone, Copy)]
-pub enum Counted {
-    Count(u32),
-    Refused(u32),
+// The error of every call that takes any input: the rule that it breaks. In a contract a refusal is the number of its rule.
+#[derive(Clone, Copy, Debug, PartialEq, Eq)]
+pub struct Refusal(pub Rule);
+
+impl Model for Refusal {
+    ghost use Rattle.std.specs.Prelude.{ℕ};
+
+    ghost Value = { ℕ };
+
+    ghost use Rattle.refusals.specs.Numbers.{number, rule_of, rule_back};
+
+    ghost view = { λ refusal. number refusal.0 };
+
+    ghost inverse = { λ n. record { 0 = rule_of n } };
+
+    ghost inverse_ok = { λ refusal h. rule_back refusal };
 }
 
-// The outcome of a call that found this number, 0 being none.
-pub fn ended(number: u32) -> Outcome
-    ensures { result ≡ unless_refused number Refused Done }
-{
-    if number != 0 {
-        return Outcome::Refused(number);
+impl From<Refusal> for u32 {
+    ghost from_gives = { λ refusal n. n ≡ refusal };
+
+    fn from(refusal: Refusal) -> u32 {
+        refusal.0 as u32
     }
-    Outcome::Done
 }
+
+impl fmt::Display for Refusal {
+    fn fmt<W: fmt::Write>(&self, f: &mut fmt::Formatter<W>) -> fmt::Result {
+        write!(f, "refused by {}", self.0 as u32)
+    }
+}
+
+impl Error for Refusal {}

@@ -7,15 +7,14 @@ use Prim.Native.Nat.{ℕ, zero, suc, ◌≤◌, ◌<◌}
 use native.Mathlib.Omega.{arith}
 use borrow.Author.Tests.{le-leb, lt-leb}
 use lib.Dec.{leb}
-use lib.ListN.{length, take, replicate}
-use lib.Seq.{length-take-le}
+use lib.ListN.{length}
 use Rattle.algebra.specs.Lists.{entry_of}
 use Rattle.algebra.specs.Places.{chosen}
 use Rattle.refusals.specs.Answered.{refused_leaves}
 use Rattle.refusals.specs.Ending.{Ended, ended_refused, ended_done}
+use Rattle.refusals.specs.Outcome.{Outcome, Done, Refused}
 use Rattle.refusals.specs.Rules.{◌unless◌, fault, unless_refused}
 use Rattle.refusals.specs.RuleLaws.{fault_here, fault_past, fault_none, fault_first, fault_rest, refuse, accept}
-use Rattle.slices.specs.Lengths.{longest}
 use Rattle.params.specs.declared.Parameters.{Parameters}
 use Rattle.basis.specs.Table.{free_at, Carried}
 use Rattle.messages.specs.CodeBasis.{MessageColumns, CodeBasis, message_is}
@@ -32,26 +31,17 @@ use Rattle.rows.specs.declared.Reading.{Reading}
 use Rattle.rows.specs.declared.Reading.TheVariants.{Read, Refused as NotRead}
 use Rattle.rows.specs.Answers.{write_rules, row_word, carried, read_rules, row_read, reading_answer, reading_after}
 use Rattle.rows.proofs.Laws.{read_is, read_apart}
-use Rattle.rows.specs.Parts.{refusal_of, ReadInto}
-
--- ---- the parts of the arrays that are lent
-
--- what an array of bytes holds at first
-abbrev pub zeros : List ℕ
-zeros = replicate longest 0
-
-pub length_part : {k : ℕ} → k ≤ longest → length (take k zeros) ≡ k
-length_part {k} l = length-take-le k zeros l
+use Rattle.rows.specs.Parts.{ReadInto}
 
 -- ---- what repair's answer says of its rules
 
 module _ {answer : Recovery} (turned : ℕ) where
   refusal_is : (f : ℕ) {number : ℕ} → answer ≡ unless_refused f NotRepaired (Repaired turned) → answer ≡ NotRepaired number
-      → (refusal_of answer ≡ f) × (f ≢ 0)
-  unfolding unless_refused refusal_of
+      → (number ≡ f) × (f ≢ 0)
+  unfolding unless_refused
   refusal_is zero {number} e is =
       let z : ◌≡◌ {A = ℕ} 0 1 = cc in absurd (omega arith)
-  refusal_is (suc f) e is = (ap refusal_of e, λ z. omega arith)
+  refusal_is (suc f) e is = (cc, λ z. omega arith)
 
   repair_is : (f : ℕ) {count : ℕ} → answer ≡ unless_refused f NotRepaired (Repaired turned) → answer ≡ Repaired count
       → (f ≡ 0) × (count ≡ turned)
@@ -69,19 +59,19 @@ module _ (c : Parameters) (h cols : List ℕ) {k : ℕ} (k-is : k ≡ dimension 
   wide l = le-leb row_bits (dimension c h cols) (subst (λ (i : ℕ). row_bits ≤ i) k-is l)
 
   module _ (gear lamp : ℕ) (old : List ℕ) where
-    abbrev Written : ℕ → List ℕ → Type 0
-    Written number new = Ended number (write_rules c h cols gear lamp) old (row_word c h cols gear lamp) new
+    abbrev Written : Outcome → List ℕ → Type 0
+    Written found new = Ended found (write_rules c h cols gear lamp) old (row_word c h cols gear lamp) new
 
-    pub write_narrow : k < row_bits → Written 12 old
+    pub write_narrow : k < row_bits → Written (Refused 12) old
     unfolding write_rules
     write_narrow l = ended_refused {k = 12} (write_rules c h cols gear lamp) old _ (sym (fault_here 12 _ (narrow l))) (λ z. omega arith)
 
-    pub write_no_row : row_bits ≤ k → is_row gear lamp ≡ false → Written 11 old
+    pub write_no_row : row_bits ≤ k → is_row gear lamp ≡ false → Written (Refused 11) old
     unfolding write_rules
     write_no_row l e =
         ended_refused {k = 11} (write_rules c h cols gear lamp) old _ (sym (fault_past 12 _ (wide l) (fault_here 11 _ e))) (λ z. omega arith)
 
-    pub write_fits : row_bits ≤ k → is_row gear lamp ≡ true → {new : List ℕ} → new ≡ row_word c h cols gear lamp → Written 0 new
+    pub write_fits : row_bits ≤ k → is_row gear lamp ≡ true → {new : List ℕ} → new ≡ row_word c h cols gear lamp → Written Done new
     unfolding write_rules
     write_fits l e w = ended_done {k = 0} (write_rules c h cols gear lamp) old _ (sym (fault_none _ (wide l, (e, tt)))) refl w
 
@@ -109,11 +99,11 @@ module _ (c : Parameters) (h cols : List ℕ) {k : ℕ} (k-is : k ≡ dimension 
         due_refused f broken = record { answer = refuse NotRead _ f broken; repaired = λ z. absurd (broken (f ∙ z)) }
 
         -- repair's refusal is handed back
-        pub not_repaired : {number given : ℕ} → answer ≡ NotRepaired number → given ≡ refusal_of answer → Ends (NotRead given)
+        pub not_repaired : {number : ℕ} → answer ≡ NotRepaired number → Ends (NotRead number)
         unfolding word_answer
-        not_repaired is e =
+        not_repaired is =
             let (due, broken) = refusal_is (turned_count c h cols received) (fault (word_rules c h cols received)) D.answer_is is in
-            due_refused (e ∙ due ∙ sym (past_wide ∙ fault_first (word_rules c h cols received) _ broken)) (λ z. broken (sym due ∙ sym e ∙ z))
+            due_refused (due ∙ sym (past_wide ∙ fault_first (word_rules c h cols received) _ broken)) (λ z. broken (sym due ∙ z))
 
         -- what a repaired word carries decides
         module _ {turned : ℕ} (is : answer ≡ Repaired turned) {message : List ℕ} (said : message ≡ message_of c h cols word) where

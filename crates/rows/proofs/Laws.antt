@@ -14,7 +14,7 @@ use Rattle.algebra.specs.Places.{chosen}
 use Rattle.algebra.specs.PlaceLaws.{length-chosen}
 use Rattle.refusals.specs.Rules.{fault, unless_refused}
 use Rattle.refusals.specs.RuleLaws.{fault_none, first_holds, hold, given}
-use Rattle.refusals.specs.declared.Outcome.TheVariants.{Done, Refused}
+use Rattle.refusals.specs.Outcome.{Done, Refused}
 use Rattle.slices.specs.Bits.{Bits, all_bits, IsBits}
 use Rattle.slices.specs.BitLaws.{received_bits, all_bits_lem}
 use Rattle.params.specs.declared.Parameters.{Parameters}

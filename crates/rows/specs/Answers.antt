@@ -1,8 +1,8 @@
 -- What writing and reading a row answer, and what they leave in the lent buffer, for every input.
 use Rattle.std.specs.Prelude.{true, ◌&&◌, List, [], ◌∷◌, ◌++◌, ℕ, eqb, leb, length}
 use Rattle.refusals.specs.Rules.{Rule, ◌unless◌, fault, unless_refused}
-use Rattle.refusals.specs.declared.Outcome.{Outcome}
-use Rattle.refusals.specs.declared.Outcome.TheVariants.{Done, Refused}
+use Rattle.refusals.specs.Outcome.{Outcome}
+use Rattle.refusals.specs.Outcome.{Done, Refused}
 use Rattle.params.specs.declared.Parameters.{Parameters}
 use Rattle.parity.specs.Columns.{dimension, message_of, encoding_of}
 use Rattle.shortened.specs.Setting.{Setting, places, columns_of, setting_rules}

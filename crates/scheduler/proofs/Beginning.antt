@@ -1,31 +1,37 @@
 -- How a start and an offer end, over plain numbers and lists: k is the number that the rules give.
 use mathlib.Core.Path.{◌≡◌, refl, sym, ap, ◌∙◌, subst}
-use mathlib.Core.Logic.{◌≢◌}
 use mathlib.Core.Bool.{Bool, true, ◌&&◌}
 use mathlib.Core.List.{List, [], ◌∷◌, ◌++◌}
-use Prim.Native.Nat.{ℕ, zero, suc, ◌+◌, ◌*◌, ◌<◌, ◌≤◌}
-use native.Mathlib.Numerals.{add-one}
+use Prim.Native.Nat.{ℕ, ◌+◌, ◌*◌, ◌<◌, ◌≤◌}
 use native.Mathlib.Omega.{arith}
 use lib.Dec.{eqb}
-use lib.ListN.{length, set, replicate, replicate-append-replicate}
+use lib.ListN.{length, set, replicate}
 use borrow.Author.Tests.{eqb-true, ltb-true}
-use Rattle.algebra.specs.Filling.{Filling, filling_end}
 use Rattle.algebra.specs.Flags.{both_true}
 use Rattle.algebra.specs.PartLaws.{part_room}
 use Rattle.algebra.specs.Parts.{with_part}
-use Rattle.algebra.specs.Tabulate.{tabulate}
-use Rattle.refusals.specs.Ending.{Ended, ended_refused, ended_done}
+use Rattle.std.specs.Result.{IsErrAnd}
+use Rattle.refusals.specs.Ending.{Ended, ended_done}
+use Rattle.refusals.specs.Outcome.{Outcome, Done, Refused, tested}
+use Rattle.refusals.specs.Testing.{tested_none, tested_due, handed_on}
 use Rattle.refusals.specs.Rules.{Rule, fault}
-use Rattle.refusals.specs.RuleLaws.{hold}
-use Rattle.refusals.specs.declared.Counted.{Counted}
+use Rattle.refusals.specs.RuleLaws.{hold, refuse}
+use Rattle.refusals.specs.Counted.{Counted}
 use Rattle.params.specs.declared.Parameters.{Parameters}
 use Rattle.shortened.specs.Begun.{Begun}
-use Rattle.shortened.proofs.BegunLaws.{begun_as, begun_sent}
+use Rattle.shortened.proofs.BegunLaws.{begun_as, begun_set}
 use Rattle.shortened.specs.Setting.{Setting, places}
 use Rattle.scheduler.specs.declared.Dash.{Dash}
 use Rattle.scheduler.specs.State.{dash_rules, offer_rules}
 use Rattle.scheduler.specs.Answers.{start_lengths, offer_lengths}
 use Rattle.scheduler.specs.Parts.{StartEnded, LentOffer, OfferEnded}
+
+-- a call that hands on what refuses it leaves its buffer as it was
+pub ended_on : {i : ℕ} (rules : List Rule) (old value : List ℕ) (r : Outcome) → Refused i ≡ tested (fault rules) → IsErrAnd r (λ y. y ≡ i)
+    → Ended r rules old value old
+ended_on rules old value r is e =
+    let (ne, due) = tested_due is in
+    record { outcome = handed_on r e ∙ is; buffer = refuse (λ k. old) value due ne }
 
 -- ---- the start
 
@@ -36,37 +42,28 @@ start_lent d waiting next t =
     let (marks, turn) = both_true (eqb (length waiting) d.senders) (eqb (length next) 1) t in
     (eqb-true (length waiting) d.senders marks, eqb-true (length next) 1 turn)
 
-zeros : (n : ℕ) → tabulate {A = ℕ} n (λ i. 0) ≡ replicate n 0
-unfolding tabulate
-zeros zero = refl
-zeros (suc n) =
-    ap (λ (l : List ℕ). l ++ 0 ∷ []) (zeros n) ∙ replicate-append-replicate n 1 0 ∙ ap (λ (k : ℕ). replicate k 0) (add-one n)
-
--- a loop that stored 0 everywhere
-pub cleared : {n : ℕ} {old now : List ℕ} {i : ℕ} → Filling {A = ℕ} (λ j. 0) n old now i → n ≤ i → now ≡ replicate n 0
-cleared {n} F l = filling_end F l ∙ zeros n
-
 -- a list of one number, which is stored
 pub only : (l : List ℕ) (x : ℕ) → length l ≡ 1 → set l 0 x ≡ x ∷ []
 only [] x e = absurd (omega arith)
 only (a ∷ []) x e = refl
 only (a ∷ b ∷ l) x e = absurd (omega arith)
 
-module _ (d : Dash) (waiting next : List ℕ) {k : ℕ} (due : k ≡ fault (dash_rules d)) where
-  pub start_refused : k ≢ 0 → StartEnded d waiting next k waiting next
-  start_refused ne =
+module _ (d : Dash) (waiting next : List ℕ) where
+  pub start_refused : {i : ℕ} (r : Outcome) → Refused i ≡ tested (fault (dash_rules d)) → IsErrAnd r (λ y. y ≡ i)
+      → StartEnded d waiting next r waiting next
+  start_refused r is e =
       record {
-        marks = ended_refused (dash_rules d) waiting (replicate d.senders 0) due ne;
-        turn = ended_refused (dash_rules d) next (0 ∷ []) due ne;
+        marks = ended_on (dash_rules d) waiting (replicate d.senders 0) r is e;
+        turn = ended_on (dash_rules d) next (0 ∷ []) r is e;
       }
 
-  pub start_done : k ≡ 0 → length waiting ≡ d.senders → length next ≡ 1 → {waiting' : List ℕ} → waiting' ≡ replicate (length waiting) 0
-      → StartEnded d waiting next 0 waiting' (set next 0 0)
-  start_done z long one e =
+  pub start_done : Done ≡ tested (fault (dash_rules d)) → length waiting ≡ d.senders → length next ≡ 1 → {waiting' : List ℕ}
+      → waiting' ≡ replicate (length waiting) 0 → StartEnded d waiting next Done waiting' (set next 0 0)
+  start_done is long one e =
+      let none = sym (tested_none is) in
       record {
-        marks =
-            ended_done (dash_rules d) waiting (replicate d.senders 0) (sym z ∙ due) refl (e ∙ ap (λ (n : ℕ). replicate n 0) long);
-        turn = ended_done (dash_rules d) next (0 ∷ []) (sym z ∙ due) refl (only next 0 one);
+        marks = ended_done (dash_rules d) waiting (replicate d.senders 0) none refl (e ∙ ap (λ (n : ℕ). replicate n 0) long);
+        turn = ended_done (dash_rules d) next (0 ∷ []) none refl (only next 0 one);
       }
 
 -- ---- an offer
@@ -85,36 +82,41 @@ offer_lent d word waiting words n marks t =
     )
 
 -- a call that counted n sent places, and began with the length of all words tested as r
-pub offer_began : (d : Dash) (word words : List ℕ) {c : Parameters} {h : List ℕ} {s : Setting} {others r : Bool} {n : ℕ} {columns : List ℕ}
+pub offer_began : (d : Dash) (word words : List ℕ) {c : Parameters} {h : List ℕ} {s s' : Setting} {others r : Bool} {n : ℕ} {columns : List ℕ}
     {found : Counted}
-    → Begun c h s others (eqb (length word) n && r) columns found → r ≡ eqb (length words) (d.senders * n) → n ≡ places s
-    → Begun c h s others (offer_lengths d word words (places s)) columns found
+    → Begun c h s others (eqb (length word) n && r) columns found → r ≡ eqb (length words) (d.senders * n) → n ≡ places s → s ≡ s'
+    → Begun c h s' others (offer_lengths d word words (places s')) columns found
 unfolding offer_lengths
-offer_began d word words {n = n} B e counted =
-    begun_sent (λ k. eqb (length word) k && eqb (length words) (d.senders * k)) (begun_as B (ap (λ (b : Bool). eqb (length word) n && b) e)) counted
+offer_began d word words {n = n} B e counted is =
+    begun_set (λ k. eqb (length word) k && eqb (length words) (d.senders * k)) (begun_as B (ap (λ (b : Bool). eqb (length word) n && b) e)) counted is
 
-module _ (d : Dash) (sender : ℕ) (word waiting words : List ℕ) {k : ℕ} (due : k ≡ fault (dash_rules d ++ offer_rules d sender word waiting)) where
-  pub offer_refused : k ≢ 0 → OfferEnded d sender word waiting words k waiting words
-  offer_refused ne =
+module _ (d : Dash) (sender : ℕ) (word waiting words : List ℕ) where
+  abbrev rules : List Rule
+  rules = dash_rules d ++ offer_rules d sender word waiting
+
+  pub offer_refused : {i : ℕ} (r : Outcome) → Refused i ≡ tested (fault rules) → IsErrAnd r (λ y. y ≡ i)
+      → OfferEnded d sender word waiting words r waiting words
+  offer_refused r is e =
       record {
-        marks = ended_refused (dash_rules d ++ offer_rules d sender word waiting) waiting (set waiting sender 1) due ne;
-        kept = ended_refused (dash_rules d ++ offer_rules d sender word waiting) words (with_part (length word) words sender word) due ne;
+        marks = ended_on rules waiting (set waiting sender 1) r is e;
+        kept = ended_on rules words (with_part (length word) words sender word) r is e;
       }
 
-  pub offer_done : k ≡ 0 → {words' : List ℕ} → words' ≡ with_part (length word) words sender word
-      → OfferEnded d sender word waiting words 0 (set waiting sender 1) words'
-  offer_done z e =
+  pub offer_done : Done ≡ tested (fault rules) → {words' : List ℕ} → words' ≡ with_part (length word) words sender word
+      → OfferEnded d sender word waiting words Done (set waiting sender 1) words'
+  offer_done is e =
+      let none = sym (tested_none is) in
       record {
-        marks = ended_done (dash_rules d ++ offer_rules d sender word waiting) waiting (set waiting sender 1) (sym z ∙ due) refl refl;
-        kept = ended_done (dash_rules d ++ offer_rules d sender word waiting) words (with_part (length word) words sender word) (sym z ∙ due) refl e;
+        marks = ended_done rules waiting (set waiting sender 1) none refl refl;
+        kept = ended_done rules words (with_part (length word) words sender word) none refl e;
       }
 
 -- where nothing is refused, the sender has a mark and a part
-module _ {d : Dash} {word waiting words : List ℕ} (L : LentOffer d word waiting words) (sender : ℕ) {k : ℕ}
-    (due : k ≡ fault (dash_rules d ++ offer_rules d sender word waiting)) (z : k ≡ 0) where
+module _ {d : Dash} {word waiting words : List ℕ} (L : LentOffer d word waiting words) (sender : ℕ)
+    (is : Done ≡ tested (fault (dash_rules d ++ offer_rules d sender word waiting))) where
   known : sender < d.senders
   unfolding dash_rules offer_rules
-  known = ltb-true sender d.senders (hold (dash_rules d ++ offer_rules d sender word waiting) tt (sym due ∙ z)).1.1.0
+  known = ltb-true sender d.senders (hold (dash_rules d ++ offer_rules d sender word waiting) tt (tested_none is)).1.1.0
 
   pub offer_marked : sender < length waiting
   offer_marked = subst (λ (n : ℕ). sender < n) (sym L.waiting_long) known
@@ -123,7 +125,7 @@ module _ {d : Dash} {word waiting words : List ℕ} (L : LentOffer d word waitin
   offer_inside = subst (λ (n : ℕ). sender * length word + length word ≤ n) (sym L.words_long) (part_room (length word) known)
 
 -- a word's part, by n places and not by the word's own length
-pub kept_wide : (sender : ℕ) (word : List ℕ) {n k : ℕ} {rules : List Rule} {words words' : List ℕ} → length word ≡ n
-    → Ended k rules words (with_part (length word) words sender word) words' → Ended k rules words (with_part n words sender word) words'
-kept_wide sender word {k = k} {rules = rules} {words = words} {words' = words'} long E =
-    subst (λ (n : ℕ). Ended k rules words (with_part n words sender word) words') long E
+pub kept_wide : (sender : ℕ) (word : List ℕ) {n : ℕ} {found : Outcome} {rules : List Rule} {words words' : List ℕ} → length word ≡ n
+    → Ended found rules words (with_part (length word) words sender word) words' → Ended found rules words (with_part n words sender word) words'
+kept_wide sender word {found = found} {rules = rules} {words = words} {words' = words'} long E =
+    subst (λ (n : ℕ). Ended found rules words (with_part n words sender word) words') long E

@@ -11,20 +11,19 @@ use Rattle.algebra.specs.Lists.{entry_of}
 use Rattle.algebra.specs.Parts.{part}
 use Rattle.algebra.specs.PartLaws.{part_lent}
 use Rattle.refusals.specs.Rules.{Rule, fault}
-use Rattle.refusals.specs.RuleLaws.{fault_here, fault_past, fault_none, fault_first, fault_rest}
+use Rattle.refusals.specs.Outcome.{Done, tested}
+use Rattle.refusals.specs.Testing.{tested_none}
+use Rattle.refusals.specs.RuleLaws.{fault_here, fault_past, fault_none, fault_rest}
 use Rattle.slices.specs.Bits.{all_bits}
 use Rattle.scheduler.specs.declared.Dash.{Dash}
 use Rattle.scheduler.specs.State.{state_of, all_words, dash_rules, offer_rules, state_rules}
 
--- ---- the rules of the dash come first: k is the number that they give
+-- ---- the rules of the dash come first
 
-module _ (d : Dash) (more : List Rule) {k : ℕ} (due : k ≡ fault (dash_rules d)) where
-  pub dash_refuses : k ≢ 0 → k ≡ fault (dash_rules d ++ more)
-  dash_refuses ne = due ∙ sym (fault_first (dash_rules d) more (λ z. ne (due ∙ z)))
-
-  pub dash_passes : k ≡ 0 → {j : ℕ} → j ≡ fault more → j ≡ fault (dash_rules d ++ more)
+module _ (d : Dash) (more : List Rule) where
+  pub dash_passes : Done ≡ tested (fault (dash_rules d)) → {j : ℕ} → j ≡ fault more → j ≡ fault (dash_rules d ++ more)
   unfolding dash_rules
-  dash_passes z e = e ∙ sym (fault_rest (dash_rules d) more tt (sym due ∙ z))
+  dash_passes is e = e ∙ sym (fault_rest (dash_rules d) more tt (tested_none is))
 
 -- ---- then those of an offer
 

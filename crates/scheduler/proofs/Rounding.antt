@@ -1,6 +1,5 @@
 -- How a round ends: by a number, or as the definition has it, which says by sender what the program found by marks.
 use mathlib.Core.Path.{◌≡◌, refl, sym, ap, ap₂, ◌∙◌, subst}
-use mathlib.Core.Logic.{◌≢◌}
 use mathlib.Core.Bool.{Bool, true, false, cond, not, ◌&&◌, ◌||◌}
 use mathlib.Core.List.{List, [], ◌∷◌, ◌++◌}
 use Prim.Native.Nat.{ℕ, ◌+◌, ◌*◌, ◌<◌, ◌≤◌}
@@ -11,47 +10,60 @@ use Rattle.algebra.specs.Parts.{part, joined}
 use Rattle.algebra.specs.PartLaws.{part_room, length_part, joined_cong}
 use Rattle.algebra.specs.Tabulate.{tabulate}
 use Rattle.algebra.specs.TabulateLaws.{length-tabulate, get_d_tabulate, tabulate_cong}
-use Rattle.refusals.specs.Ending.{ended_refused, ended_done}
-use Rattle.refusals.specs.Rules.{fault}
-use Rattle.refusals.specs.declared.Counted.{Counted}
+use Rattle.std.specs.Result.{IsErrAnd}
+use Rattle.refusals.specs.Ending.{ended_done}
+use Rattle.refusals.specs.Outcome.{Outcome, Done, Refused, tested}
+use Rattle.refusals.specs.Rules.{Rule, fault}
+use Rattle.refusals.specs.Testing.{tested_none}
+use Rattle.refusals.specs.Counted.{Counted}
 use Rattle.slices.specs.BitLaws.{received_bits}
 use Rattle.params.specs.declared.Parameters.{Parameters}
 use Rattle.parity.specs.Word.{is_code_word}
 use Rattle.repair.specs.Decoding.{word_answer, word_after}
 use Rattle.shortened.specs.Begun.{Begun}
-use Rattle.shortened.proofs.BegunLaws.{begun_as, begun_sent}
+use Rattle.shortened.proofs.BegunLaws.{begun_as, begun_set}
 use Rattle.shortened.specs.Setting.{Setting, places}
 use Rattle.turns.specs.Turns.{others_before, turn_of, is_tried, next_turn}
 use Rattle.turns.specs.TurnLaws.{tried_same, next_same}
-use Rattle.turns.specs.Marks.{stays, code_word, other, is_other as marked, mark_after, marks_after, turn_after_marks}
+use Rattle.turns.specs.declared.Mark.{Mark}
+use Rattle.turns.specs.declared.Mark.TheVariants.{Stays, CodeWord, Other}
+use Rattle.turns.specs.Marks.{stays, tries, mark_in, is_other as marked, mark_after, marks_after, turn_after_marks}
 use Rattle.wire.specs.Wire.{recovery_code}
 use Rattle.scheduler.specs.declared.Dash.{Dash}
-use Rattle.scheduler.specs.State.{State, state_of, most_senders, dash_rules, state_rules}
+use Rattle.scheduler.specs.State.{State, state_of, turn, most_senders, dash_rules, state_rules}
 use Rattle.scheduler.specs.StateLaws.{few_senders, turn_inside, word_bits}
 use Rattle.scheduler.specs.Round.{none, is_whole, is_other, leaves, answer_at}
 use Rattle.scheduler.specs.Round.{waiting_at, handed_at, round_waiting, round_next, round_answers, round_handed}
 use Rattle.scheduler.specs.Answers.{round_lengths, round_words, round_rules}
 use Rattle.scheduler.specs.Parts.{mark_of, mark_at, marks_of, answer_of, answers_of, handed_of, handed_parts, waiting_of, LentRound, Made}
 use Rattle.scheduler.specs.Parts.{LentState, RoundEnded}
+use Rattle.scheduler.proofs.Beginning.{ended_on}
 
--- the state's rules read the turn alone of its last list
-pub turn_alone : (d : Dash) (n : ℕ) (waiting words next : List ℕ)
-    → fault (dash_rules d ++ state_rules d n (state_of waiting words (entry_of next 0 ∷ []))) ≡ fault
-    (dash_rules d ++ state_rules d n (state_of waiting words next))
+-- what the state was found, which is handed over with the turn alone of its last list, as its rules read no more of it
+abbrev pub state_found : Dash → State → List ℕ → Outcome
+state_found d σ cols = tested (fault (dash_rules d ++ state_rules d (length cols) (state_of σ.waiting σ.words (turn σ ∷ []))))
+
+turn_alone : (d : Dash) (σ : State) (cols : List ℕ) → state_found d σ cols ≡ tested (fault (round_rules d σ cols))
 unfolding state_rules
-turn_alone d n waiting words next = refl
+turn_alone d σ cols = refl
 
 -- ---- what is lent, where nothing refuses the state
 
 module _ (cols : List ℕ) {d : Dash} {σ : State} {answers handed : List ℕ} (L : LentState d (length cols) σ answers handed)
-    (none_due : fault (round_rules d σ cols) ≡ 0) where
+    (is : Done ≡ state_found d σ cols) where
   abbrev n : ℕ
   n = length cols
 
-  pub lent_round : {marks : List ℕ} → length marks ≡ length σ.waiting → LentRound n σ marks answers handed
-  lent_round long =
+  none_due : fault (round_rules d σ cols) ≡ 0
+  none_due = tested_none (is ∙ turn_alone d σ cols)
+
+  pub round_few : length σ.waiting ≤ most_senders
+  round_few = subst (λ (k : ℕ). k ≤ most_senders) (sym L.waiting_long) (few_senders d σ cols none_due)
+
+  pub round_lent : {marks : List Mark} → length marks ≡ length σ.waiting → LentRound n σ marks answers handed
+  round_lent long =
       record {
-        few = subst (λ (k : ℕ). k ≤ most_senders) (sym L.waiting_long) (few_senders d σ cols none_due);
+        few = round_few;
         words =
             record {
               long = L.words_long ∙ ap (λ (k : ℕ). k * n) (sym L.waiting_long);
@@ -70,14 +82,14 @@ module _ (cols : List ℕ) {d : Dash} {σ : State} {answers handed : List ℕ} (
 
 -- ---- marks and senders
 
-other_mark : (w i : Bool) → eqb (cond w (cond i code_word other) stays) other ≡ (w && not i)
+other_mark : (w i : Bool) → tries (cond w (cond i CodeWord Other) Stays) ≡ (w && not i)
 other_mark true true = refl
 other_mark true false = refl
 other_mark false i = refl
 
 -- who is marked as staying, by whether its word waits, is a code word, and comes early enough in turn
 left_mark : (w i e : Bool)
-    → eqb (cond ((w && not i) && not ((w && not i) && e)) stays (cond w (cond i code_word other) stays)) stays ≡ not ((w && i) || ((w && not i) && e))
+    → stays (cond ((w && not i) && not ((w && not i) && e)) Stays (cond w (cond i CodeWord Other) Stays)) ≡ not ((w && i) || ((w && not i) && e))
 left_mark true true e = refl
 left_mark true false true = refl
 left_mark true false false = refl
@@ -96,10 +108,10 @@ module _ (c : Parameters) (h cols : List ℕ) (d : Dash) (σ : State) (long : le
     abbrev next : ℕ
     next = entry_of σ.next 0
 
-    abbrev first : List ℕ
+    abbrev first : List Mark
     first = marks_of c h cols σ.waiting σ.words
 
-    abbrev last : List ℕ
+    abbrev last : List Mark
     last = marks_after R next first
 
     first_long : length first ≡ d.senders
@@ -109,14 +121,14 @@ module _ (c : Parameters) (h cols : List ℕ) (d : Dash) (σ : State) (long : le
     unfolding marks_after
     last_long = length-tabulate (length first) (mark_after R next first) ∙ first_long
 
-    first_at : (p : ℕ) → p < d.senders → entry_of first p ≡ mark_at c h cols σ.waiting σ.words p
+    first_at : (p : ℕ) → p < d.senders → mark_in first p ≡ mark_at c h cols σ.waiting σ.words p
     first_at p l =
-        get_d_tabulate (length σ.waiting) (mark_at c h cols σ.waiting σ.words) p 0 (subst (λ (k : ℕ). p < k) (sym long) l)
+        get_d_tabulate (length σ.waiting) (mark_at c h cols σ.waiting σ.words) p Stays (subst (λ (k : ℕ). p < k) (sym long) l)
 
     others_are : (p : ℕ) → p < d.senders → marked first p ≡ is_other c h cols d σ p
     unfolding is_other mark_of
     others_are p l =
-        ap (λ (m : ℕ). eqb m other) (first_at p l)
+        ap tries (first_at p l)
         ∙ other_mark (eqb (entry_of σ.waiting p) 1) (is_code_word c h cols (part (length cols) σ.words p))
 
     tried_are : (p : ℕ) → p < d.senders
@@ -125,13 +137,13 @@ module _ (c : Parameters) (h cols : List ℕ) (d : Dash) (σ : State) (long : le
         ap (λ (k : ℕ). is_tried k next R (marked first) p) first_long ∙ tried_same inside R others_are p l
 
     -- a sender is marked as staying exactly if its word does not leave
-    stays_are : (p : ℕ) → p < d.senders → eqb (entry_of last p) stays ≡ not (leaves c h cols d σ p)
+    stays_are : (p : ℕ) → p < d.senders → stays (mark_in last p) ≡ not (leaves c h cols d σ p)
     unfolding marks_after mark_after mark_of leaves is_whole is_other is_tried
     stays_are p l =
-        ap (λ (m : ℕ). eqb m stays)
-        (get_d_tabulate (length first) (mark_after R next first) p 0 (subst (λ (k : ℕ). p < k) (sym first_long) l))
-        ∙ ap (λ (b : Bool). eqb (cond (b && not (is_tried (length first) next R (marked first) p)) stays (entry_of first p)) stays) (others_are p l)
-        ∙ ap₂ (λ (t : Bool) (m : ℕ). eqb (cond (is_other c h cols d σ p && not t) stays m) stays) (tried_are p l) (first_at p l)
+        ap stays
+        (get_d_tabulate (length first) (mark_after R next first) p Stays (subst (λ (k : ℕ). p < k) (sym first_long) l))
+        ∙ ap (λ (b : Bool). stays (cond (b && not (is_tried (length first) next R (marked first) p)) Stays (mark_in first p))) (others_are p l)
+        ∙ ap₂ (λ (t : Bool) (m : Mark). stays (cond (is_other c h cols d σ p && not t) Stays m)) (tried_are p l) (first_at p l)
         ∙ left_mark (eqb (entry_of σ.waiting p) 1) (is_code_word c h cols (part (length cols) σ.words p))
         (ltb (others_before d.senders next (is_other c h cols d σ) (turn_of d.senders next p)) R)
 
@@ -140,7 +152,7 @@ module _ (c : Parameters) (h cols : List ℕ) (d : Dash) (σ : State) (long : le
     waiting_same : waiting_of last σ.waiting ≡ round_waiting c h cols d σ
     unfolding round_waiting waiting_at
     waiting_same =
-        ap (λ (k : ℕ). tabulate k (λ p. cond (eqb (entry_of last p) stays) (entry_of σ.waiting p) 0)) long
+        ap (λ (k : ℕ). tabulate k (λ p. cond (stays (mark_in last p)) (entry_of σ.waiting p) 0)) long
         ∙ tabulate_cong d.senders
         (λ p l. ap (λ (b : Bool). cond b (entry_of σ.waiting p) 0) (stays_are p l) ∙ flip (leaves c h cols d σ p) (entry_of σ.waiting p) 0)
 
@@ -152,7 +164,7 @@ module _ (c : Parameters) (h cols : List ℕ) (d : Dash) (σ : State) (long : le
     answers_same : answers_of c h cols last σ.words ≡ round_answers c h cols d σ
     unfolding round_answers answer_at answer_of
     answers_same =
-        ap (λ (k : ℕ). tabulate k (λ p. answer_of c h cols (entry_of last p) (word p))) last_long
+        ap (λ (k : ℕ). tabulate k (λ p. answer_of c h cols (mark_in last p) (word p))) last_long
         ∙ tabulate_cong d.senders
         (λ p l.
         ap (λ (b : Bool). cond b none (recovery_code (word_answer c h cols (word p)))) (stays_are p l)
@@ -164,7 +176,7 @@ module _ (c : Parameters) (h cols : List ℕ) (d : Dash) (σ : State) (long : le
     handed_same : (handed : List ℕ) → handed_parts c h cols last σ.words handed ≡ round_handed c h cols d σ handed
     unfolding round_handed handed_at handed_of
     handed_same handed =
-        ap (λ (k : ℕ). joined k (λ p. handed_of c h cols (entry_of last p) (word p) (old p))) last_long
+        ap (λ (k : ℕ). joined k (λ p. handed_of c h cols (mark_in last p) (word p) (old p))) last_long
         ∙ joined_cong d.senders
         (λ p l.
         ap (λ (b : Bool). cond b (old p) (word_after c h cols (word p) (old p))) (stays_are p l)
@@ -178,57 +190,47 @@ module _ (c : Parameters) (h cols : List ℕ) (d : Dash) (σ : State) (long : le
 
 -- ---- the end
 
-module _ (c : Parameters) (h cols : List ℕ) {d : Dash} {σ : State} {answers handed : List ℕ} (L : LentState d (length cols) σ answers handed) {k : ℕ}
-    (due : k ≡ fault (round_rules d σ cols)) where
-  pub round_refused : k ≢ 0 → RoundEnded c h cols d σ answers handed k σ.waiting σ.next answers handed
-  round_refused ne =
+module _ (c : Parameters) (h cols : List ℕ) {d : Dash} {σ : State} {answers handed : List ℕ} (L : LentState d (length cols) σ answers handed) where
+  abbrev rules : List Rule
+  rules = round_rules d σ cols
+
+  pub round_refused : {i : ℕ} (r : Outcome) → Refused i ≡ state_found d σ cols → IsErrAnd r (λ y. y ≡ i)
+      → RoundEnded c h cols d σ answers handed r σ.waiting σ.next answers handed
+  round_refused r is e =
+      let due = is ∙ turn_alone d σ cols in
       record {
-        waiting_end = ended_refused (round_rules d σ cols) σ.waiting (round_waiting c h cols d σ) due ne;
-        next_end = ended_refused (round_rules d σ cols) σ.next (round_next c h cols d σ) due ne;
-        answers_end = ended_refused (round_rules d σ cols) answers (round_answers c h cols d σ) due ne;
-        handed_end = ended_refused (round_rules d σ cols) handed (round_handed c h cols d σ handed) due ne;
+        waiting_end = ended_on rules σ.waiting (round_waiting c h cols d σ) r due e;
+        next_end = ended_on rules σ.next (round_next c h cols d σ) r due e;
+        answers_end = ended_on rules answers (round_answers c h cols d σ) r due e;
+        handed_end = ended_on rules handed (round_handed c h cols d σ handed) r due e;
       }
 
-  module _ (z : k ≡ 0) where
-    none_due : fault (round_rules d σ cols) ≡ 0
-    none_due = sym due ∙ z
-
-    pub round_lent : {marks : List ℕ} → length marks ≡ length σ.waiting → LentRound (length cols) σ marks answers handed
-    round_lent = lent_round cols L none_due
-
-    pub round_few : length σ.waiting ≤ most_senders
-    round_few = subst (λ (x : ℕ). x ≤ most_senders) (sym L.waiting_long) (few_senders d σ cols none_due)
-
-    pub round_made : {waiting' next' answers' handed' : List ℕ} → Made c h cols d.repairs σ handed waiting' next' answers' handed'
-        → RoundEnded c h cols d σ answers handed 0 waiting' next' answers' handed'
-    round_made M =
-        let long = L.waiting_long in
-        let inside = turn_inside d σ cols none_due in
-        let nothing = sym none_due in
-        record {
-          waiting_end =
-              ended_done (round_rules d σ cols) σ.waiting (round_waiting c h cols d σ) nothing refl
-              (M.waiting_are ∙ waiting_same c h cols d σ long inside);
-          next_end =
-              ended_done (round_rules d σ cols) σ.next (round_next c h cols d σ) nothing refl
-              (M.next_is ∙ next_are c h cols d σ long inside);
-          answers_end =
-              ended_done (round_rules d σ cols) answers (round_answers c h cols d σ) nothing refl
-              (M.answers_are ∙ answers_same c h cols d σ long inside);
-          handed_end =
-              ended_done (round_rules d σ cols) handed (round_handed c h cols d σ handed) nothing refl
-              (M.handed_are ∙ handed_same c h cols d σ long inside handed);
-        }
+  pub round_made : Done ≡ state_found d σ cols → {waiting' next' answers' handed' : List ℕ}
+      → Made c h cols d.repairs σ handed waiting' next' answers' handed'
+      → RoundEnded c h cols d σ answers handed Done waiting' next' answers' handed'
+  round_made is M =
+      let long = L.waiting_long in
+      let due = tested_none (is ∙ turn_alone d σ cols) in
+      let inside = turn_inside d σ cols due in
+      let none = sym due in
+      record {
+        waiting_end =
+            ended_done rules σ.waiting (round_waiting c h cols d σ) none refl (M.waiting_are ∙ waiting_same c h cols d σ long inside);
+        next_end = ended_done rules σ.next (round_next c h cols d σ) none refl (M.next_is ∙ next_are c h cols d σ long inside);
+        answers_end = ended_done rules answers (round_answers c h cols d σ) none refl (M.answers_are ∙ answers_same c h cols d σ long inside);
+        handed_end =
+            ended_done rules handed (round_handed c h cols d σ handed) none refl (M.handed_are ∙ handed_same c h cols d σ long inside handed);
+      }
 
 -- ---- the call
 
 -- a call that counted n sent places, and began with the lengths of the words and of those that are handed out tested as q and r
-pub round_began : (d : Dash) (σ : State) (answers handed : List ℕ) {c : Parameters} {h : List ℕ} {s : Setting} {q r : Bool} {n : ℕ} {columns : List ℕ}
+pub round_began : (d : Dash) (σ : State) (answers handed : List ℕ) {c : Parameters} {h : List ℕ} {s s' : Setting} {q r : Bool} {n : ℕ} {columns : List ℕ}
     {found : Counted}
     → Begun c h s (eqb (length σ.waiting) d.senders && eqb (length σ.next) 1 && eqb (length answers) d.senders) (q && r) columns found
-    → q ≡ eqb (length σ.words) (d.senders * n) → r ≡ eqb (length handed) (d.senders * n) → n ≡ places s
-    → Begun c h s (round_lengths d σ answers) (round_words d σ handed (places s)) columns found
+    → q ≡ eqb (length σ.words) (d.senders * n) → r ≡ eqb (length handed) (d.senders * n) → n ≡ places s → s ≡ s'
+    → Begun c h s' (round_lengths d σ answers) (round_words d σ handed (places s')) columns found
 unfolding round_lengths round_words
-round_began d σ answers handed B e f counted =
-    begun_sent (λ k. eqb (length σ.words) (d.senders * k) && eqb (length handed) (d.senders * k))
-    (begun_as B (ap₂ (λ (a b : Bool). a && b) e f)) counted
+round_began d σ answers handed B e f counted is =
+    begun_set (λ k. eqb (length σ.words) (d.senders * k) && eqb (length handed) (d.senders * k))
+    (begun_as B (ap₂ (λ (a b : Bool). a && b) e f)) counted is

@@ -2,8 +2,8 @@
 use Rattle.std.specs.Prelude.{Bool, true, ◌&&◌, List, [], ◌∷◌, ◌++◌, ℕ, ◌*◌, eqb, length, set, replicate}
 use Rattle.algebra.specs.Parts.{with_part}
 use Rattle.refusals.specs.Rules.{Rule, fault, unless_refused}
-use Rattle.refusals.specs.declared.Outcome.{Outcome}
-use Rattle.refusals.specs.declared.Outcome.TheVariants.{Done, Refused}
+use Rattle.refusals.specs.Outcome.{Outcome}
+use Rattle.refusals.specs.Outcome.{Done, Refused}
 use Rattle.params.specs.declared.Parameters.{Parameters}
 use Rattle.shortened.specs.Setting.{Setting, places, columns_of, setting_rules}
 use Rattle.scheduler.specs.declared.Dash.{Dash}

@@ -1,7 +1,7 @@
 -- Offers and rounds one after the other: the states that are reached from the start, and what a play brings a sender.
 use Rattle.std.specs.Prelude.{◌≡◌, Bool, cond, List, [], ◌∷◌, ℕ, ◌+◌, eqb}
 use Rattle.algebra.specs.Lists.{entry_of}
-use Rattle.refusals.specs.declared.Outcome.TheVariants.{Done}
+use Rattle.refusals.specs.Outcome.{Done}
 use Rattle.params.specs.declared.Parameters.{Parameters}
 use Rattle.shortened.specs.Setting.{Setting}
 use Rattle.scheduler.specs.declared.Dash.{Dash}

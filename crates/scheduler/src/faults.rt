@@ -2,46 +2,50 @@
 ghost use Rattle.std.specs.Prelude.{◌≡◌, [], ◌∷◌, ◌++◌, not, ◌||◌, ◌*◌, ◌<◌, eqb, length};
 ghost use Rattle.algebra.specs.Lists.{entry_of};
 ghost use Rattle.algebra.specs.Parts.{part};
+ghost use Rattle.refusals.specs.Outcome.{tested};
 ghost use Rattle.refusals.specs.Rules.{fault};
 ghost use Rattle.slices.specs.Bits.{all_bits};
 ghost use Rattle.scheduler.specs.State.{state_of, all_words, dash_rules, offer_rules, state_rules};
 
 use crate::{Dash, MOST_REPAIRS, MOST_SENDERS};
+use refusals::{Refusal, Rule};
 use slices::all_bits;
 
-// 18, or 0.
-pub(crate) fn dash_fault(d: Dash) -> u32
-    ensures { result ≡ fault (dash_rules d) }
+// Whether the numbers of senders and of repairs are in range: 18.
+pub(crate) fn check_dash(d: Dash) -> Result<(), Refusal>
+    ensures { result ≡ tested (fault (dash_rules d)) }
 {
     if !((1 <= d.senders) & (d.senders <= MOST_SENDERS as u32)) {
-        return refusals::SENDER;
+        return Err(Refusal(Rule::Sender));
     }
     if !((1 <= d.repairs) & (d.repairs <= MOST_REPAIRS)) {
-        return refusals::SENDER;
+        return Err(Refusal(Rule::Sender));
     }
-    0
+    Ok(())
 }
 
-// The number for a word that a sender offers: 18, 19, 8, or 0.
-pub(crate) fn offer_fault(d: Dash, sender: usize, word: &[u8], waiting: &[u8]) -> u32
+// Whether a sender may offer a word: 18, 19, or 8.
+pub(crate) fn check_offer(
+    d: Dash,
+    sender: usize,
+    word: &[u8],
+    waiting: &[u8],
+) -> Result<(), Refusal>
     requires { length waiting.now ≡ d.senders }
-    ensures { result ≡ fault (dash_rules d ++ offer_rules d sender word.now waiting.now) }
+    ensures { result ≡ tested (fault (dash_rules d ++ offer_rules d sender word.now waiting.now)) }
 {
-    let number = dash_fault(d);
-    if number != 0 {
-        return number;
-    }
+    check_dash(d)?;
     if waiting.len() <= sender {
-        return refusals::SENDER;
+        return Err(Refusal(Rule::Sender));
     }
     let waits = waiting[sender] != 0;
     if waits {
-        return refusals::WAITING;
+        return Err(Refusal(Rule::Waiting));
     }
     if !all_bits(word) {
-        return refusals::BIT;
+        return Err(Refusal(Rule::Bit));
     }
-    0
+    Ok(())
 }
 
 // Whether the word of sender p is a word of bits, if it waits.
@@ -62,31 +66,29 @@ fn are_words(n: usize, waiting: &[u8], words: &[u8]) -> bool
     requires { length words.now ≡ length waiting.now * n }
     ensures { result ≡ all_words n waiting.now words.now (length waiting.now) }
 {
-    for p in 0..waiting.len() {
-        if !is_word(n, p, waiting, words) {
-            return false;
-        }
-    }
-    true
+    (0..waiting.len()).all(|p| is_word(n, p, waiting, words))
 }
 
-// The number for a state, of words of n places: 18, 8, or 0.
-pub(crate) fn state_fault(d: Dash, n: usize, waiting: &[u8], words: &[u8], next: u32) -> u32
+// Whether a state is one, of words of n places: 18, or 8.
+pub(crate) fn check_state(
+    d: Dash,
+    n: usize,
+    waiting: &[u8],
+    words: &[u8],
+    next: u32,
+) -> Result<(), Refusal>
     requires { (length waiting.now ≡ d.senders) × (length words.now ≡ length waiting.now * n) }
-    ensures { result ≡ fault (dash_rules d ++ state_rules d n (state_of waiting.now words.now (next ∷ []))) }
+    ensures { result ≡ tested (fault (dash_rules d ++ state_rules d n (state_of waiting.now words.now (next ∷ [])))) }
 {
-    let number = dash_fault(d);
-    if number != 0 {
-        return number;
-    }
+    check_dash(d)?;
     if d.senders <= next {
-        return refusals::SENDER;
+        return Err(Refusal(Rule::Sender));
     }
     if !all_bits(waiting) {
-        return refusals::BIT;
+        return Err(Refusal(Rule::Bit));
     }
     if !are_words(n, waiting, words) {
-        return refusals::BIT;
+        return Err(Refusal(Rule::Bit));
     }
-    0
+    Ok(())
 }

@@ -8,7 +8,7 @@
 mod faults;
 mod rounds;
 
-ghost use Rattle.std.specs.Prelude.{◌≡◌, ◌*◌, length, replicate};
+ghost use Rattle.std.specs.Prelude.{◌≡◌, length};
 ghost use Rattle.shortened.specs.Setting.{short_code};
 ghost use Rattle.scheduler.specs.State.{state_of};
 ghost use Rattle.scheduler.specs.Answers.{start_answer, start_waiting, start_next, offer_answer, offer_waiting, offer_words};
@@ -18,10 +18,12 @@ ghost use Rattle.scheduler.specs.Parts.{StartEnded, OfferEnded, LentOffer};
 use basis::Column;
 use columns::is_parts_length;
 use field::Elem;
+use nearest::Decoder;
 use params::Parameters;
-use refusals::{Counted, Outcome, ended};
-use shortened::{Lent, sent_places, whole_code, whole_code_inverses};
-use slices::{LONGEST, copy_bits};
+use parity::Code;
+use refusals::Refusal;
+use shortened::{Lent, Setting, begin};
+use slices::LONGEST;
 
 // The most senders, and the most repairs in a round.
 pub const MOST_SENDERS: usize = 8;
@@ -32,7 +34,7 @@ pub const MOST_REPAIRS: u32 = 8;
 pub const NONE: u32 = 1 << 31;
 
 // How many senders a dash listens to, and how many words it repairs in a round.
-#[derive(Clone, Copy)]
+#[derive(Clone, Copy, Debug, PartialEq, Eq)]
 pub struct Dash {
     pub senders: u32,
     pub repairs: u32,
@@ -46,44 +48,31 @@ pub fn start(
     d: Dash,
     waiting: &mut [u8],
     next: &mut [u32],
-) -> Outcome
+) -> Result<(), Refusal>
     ensures value { result ≡ start_answer c h.now (short_code hidden.now) d waiting.old next.old }
     ensures waiting_after { waiting.new ≡ start_waiting c h.now (short_code hidden.now) d waiting.old next.old }
     ensures next_after { next.new ≡ start_next c h.now (short_code hidden.now) d waiting.old next.old }
 {
+    let s = Setting::whole_code(hidden);
     let lent = Lent {
         others: (waiting.len() == d.senders as usize) & (next.len() == 1),
         words: true,
     };
+    let mut inverses: [Elem; LONGEST] = [0; LONGEST];
     let mut columns: [Column; LONGEST] = [0; LONGEST];
-    let found = whole_code(c, h, hidden, lent, &mut columns);
-    match found {
-        Counted::Refused(number) => Outcome::Refused(number),
-        Counted::Count(_) => ended(start_on(d, waiting, next)),
-    }
+    begin(c, h, &s, lent, &mut inverses, &mut columns)?;
+    start_on(d, waiting, next)
 }
 
-// The start for an accepted code: 18, or 0.
-fn start_on(d: Dash, waiting: &mut [u8], next: &mut [u32]) -> u32
+// The start for an accepted code, or 18.
+fn start_on(d: Dash, waiting: &mut [u8], next: &mut [u32]) -> Result<(), Refusal>
     requires { (length waiting.old ≡ d.senders) × (length next.old ≡ 1) }
     ensures { StartEnded d waiting.old next.old result waiting.new next.new }
 {
-    let number = faults::dash_fault(d);
-    if number != 0 {
-        return number;
-    }
-    clear(waiting);
+    faults::check_dash(d)?;
+    waiting.fill(0);
     next[0] = 0;
-    0
-}
-
-// No word waits.
-fn clear(waiting: &mut [u8])
-    ensures { waiting.new ≡ replicate (length waiting.old) 0 }
-{
-    for p in 0..waiting.len() {
-        waiting[p] = 0;
-    }
+    Ok(())
 }
 
 // Offers a word of a sender, which then waits.
@@ -96,7 +85,7 @@ pub fn offer(
     word: &[u8],
     waiting: &mut [u8],
     words: &mut [u8],
-) -> Outcome
+) -> Result<(), Refusal>
     ensures value { result ≡ offer_answer c h.now (short_code hidden.now) d sender word.now waiting.old
         words.old }
     ensures waiting_after { waiting.new
@@ -105,34 +94,36 @@ pub fn offer(
     ensures words_after { words.new
         ≡ offer_words c h.now (short_code hidden.now) d sender word.now waiting.old words.old }
 {
+    let s = Setting::whole_code(hidden);
     let senders = d.senders as usize;
-    let n = sent_places(hidden);
+    let sent = s.places();
     let lent = Lent {
         others: waiting.len() == senders,
-        words: (word.len() == n) & is_parts_length(words.len(), senders, n),
+        words: (word.len() == sent) & is_parts_length(words.len(), senders, sent),
     };
+    let mut inverses: [Elem; LONGEST] = [0; LONGEST];
     let mut columns: [Column; LONGEST] = [0; LONGEST];
-    let found = whole_code(c, h, hidden, lent, &mut columns);
-    match found {
-        Counted::Refused(number) => Outcome::Refused(number),
-        Counted::Count(_) => ended(offer_on(d, sender as usize, word, waiting, words)),
-    }
+    begin(c, h, &s, lent, &mut inverses, &mut columns)?;
+    offer_on(d, sender as usize, word, waiting, words)
 }
 
-// The offer for an accepted code: 18, 19, 8, or 0.
-fn offer_on(d: Dash, sender: usize, word: &[u8], waiting: &mut [u8], words: &mut [u8]) -> u32
+// The offer for an accepted code, or 18, 19 or 8.
+fn offer_on(
+    d: Dash,
+    sender: usize,
+    word: &[u8],
+    waiting: &mut [u8],
+    words: &mut [u8],
+) -> Result<(), Refusal>
     requires { LentOffer d word.now waiting.old words.old }
     ensures { OfferEnded d sender word.now waiting.old words.old result waiting.new words.new }
 {
-    let number = faults::offer_fault(d, sender, word, waiting);
-    if number != 0 {
-        return number;
-    }
+    faults::check_offer(d, sender, word, waiting)?;
     let start = sender * word.len();
     let end = start + word.len();
-    copy_bits(word, &mut words[start..end]);
+    words[start..end].copy_from_slice(word);
     waiting[sender] = 1;
-    0
+    Ok(())
 }
 
 // Makes a round. Every word that leaves is told in `answers` what repair alone answers for it, and handed out in its part of `handed`.
@@ -146,7 +137,7 @@ pub fn round(
     next: &mut [u32],
     answers: &mut [u32],
     handed: &mut [u8],
-) -> Outcome
+) -> Result<(), Refusal>
     ensures value { result
         ≡ round_answer c h.now (short_code hidden.now) d (state_of waiting.old words.now next.old)
         answers.old handed.old }
@@ -165,31 +156,27 @@ pub fn round(
         ≡ handed_after c h.now (short_code hidden.now) d (state_of waiting.old words.now next.old)
         answers.old handed.old }
 {
+    let s = Setting::whole_code(hidden);
     let senders = d.senders as usize;
     let others = (waiting.len() == senders) & (next.len() == 1) & (answers.len() == senders);
-    let n = sent_places(hidden);
-    let words_long = is_parts_length(words.len(), senders, n);
-    let handed_long = is_parts_length(handed.len(), senders, n);
+    let sent = s.places();
+    let words_long = is_parts_length(words.len(), senders, sent);
+    let handed_long = is_parts_length(handed.len(), senders, sent);
     let lent = Lent {
         others,
         words: words_long & handed_long,
     };
     let mut inverses: [Elem; LONGEST] = [0; LONGEST];
     let mut columns: [Column; LONGEST] = [0; LONGEST];
-    let found = whole_code_inverses(c, h, hidden, lent, &mut inverses, &mut columns);
-    match found {
-        Counted::Refused(number) => Outcome::Refused(number),
-        Counted::Count(n) => ended(rounds::round_on(
-            c,
-            h,
-            &inverses,
-            &columns[..n as usize],
-            d,
-            waiting,
-            words,
-            next,
-            answers,
-            handed,
-        )),
-    }
+    let n = begin(c, h, &s, lent, &mut inverses, &mut columns)?;
+    let code = Code {
+        c,
+        h,
+        cols: &columns[..n],
+    };
+    let decoder = Decoder {
+        code,
+        inverses: &inverses,
+    };
+    rounds::round_on(&decoder, d, waiting, words, next, answers, handed)
 }

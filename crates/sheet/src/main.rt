@@ -3,12 +3,10 @@
 
 ghost use Rattle.std.specs.Prelude.{◌≤◌, IfOk, length};
 
-use refusals::Counted;
 use std::io::{self, Read};
 
 fn print(rt: &impl Print, text: &[u8], out: &mut [u8]) -> io::Result<()> {
-    let listed = listing::printed(text, out);
-    if let Counted::Count(length) = listed {
+    if let Ok(length) = listing::printed(text, out) {
         let end = length as usize;
         rt.write_all(&out[..end])?;
     }

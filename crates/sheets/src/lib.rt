@@ -2,6 +2,7 @@
 #![tactic(auto)]
 
 ghost use Rattle.std.specs.Prelude.{◌≡◌, true, ◌≤◌, length, take};
+ghost use Rattle.refusals.specs.Outcome.{Done, tested};
 ghost use Rattle.slices.specs.Lengths.{longest};
 ghost use Rattle.sheets.specs.Sheet.{second, sheet_parameters, sheet_n, sheet_h, is_sheet};
 ghost use Rattle.sheets.specs.Fault.{sheet_fault};
@@ -9,7 +10,8 @@ ghost use Rattle.sheets.specs.Held.{SheetRead};
 
 use field::Elem;
 use fields::FIELD;
-use params::{Parameters, code_fault_inverses};
+use params::{Parameters, check_code};
+use refusals::{Refusal, Rule};
 use slices::LONGEST;
 
 // Where line two of a sheet begins.
@@ -59,17 +61,17 @@ fn read_signature(text: &[u8], h: &mut [Elem])
     fields::read_line(text, SECOND, &mut h[..n]);
 }
 
-// The number that refuses a text, or 0. Then `h` begins with the entries of the signature, and `inverses` with their inverses.
-pub fn sheet_fault(text: &[u8], h: &mut [Elem], inverses: &mut [Elem]) -> u32
+// Whether a text is the sheet of an accepted code. Then `h` begins with the entries of the signature, and `inverses` with their inverses.
+pub fn check_sheet(text: &[u8], h: &mut [Elem], inverses: &mut [Elem]) -> Result<(), Refusal>
     requires { (longest ≤ length h.old) × (longest ≤ length inverses.old) }
-    ensures value { result ≡ sheet_fault text.now }
-    ensures sheet_read { result ≡ 0 → SheetRead text.now h.new inverses.new }
+    ensures value { result ≡ tested (sheet_fault text.now) }
+    ensures sheet_read { result ≡ Done → SheetRead text.now h.new inverses.new }
 {
     if !is_sheet(text) {
-        return refusals::NO_SHEET;
+        return Err(Refusal(Rule::NoSheet));
     }
     read_signature(text, h);
     let c = parameters_of(text);
     let n = c.n as usize;
-    code_fault_inverses(c, &h[..n], true, inverses)
+    check_code(c, &h[..n], true, inverses)
 }

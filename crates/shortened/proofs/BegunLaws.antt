@@ -1,9 +1,10 @@
 -- How a call goes on: what its beginning refuses is refused, and what that lets pass is left to the work for the columns that it numbered.
-use Rattle.std.specs.Prelude.{◌≡◌, ◌≢◌, Bool, true, List, ◌++◌, ℕ, length, take}
-use Rattle.std.proofs.Common.{sym, ap, ◌∙◌, subst}
-use Rattle.refusals.specs.declared.Counted.{Counted}
-use Rattle.refusals.specs.declared.Counted.TheVariants.{Count, Refused as NotCounted}
-use Rattle.refusals.specs.declared.Outcome.TheVariants.{Done, Refused}
+use Rattle.std.specs.Prelude.{◌≡◌, ◌≢◌, Bool, true, List, ◌++◌, ℕ, ◌≤◌, length, take}
+use Rattle.std.proofs.Common.{sym, ap, ◌∙◌, subst, arith}
+use Rattle.std.proofs.lemmas.List.{length-take}
+use Rattle.refusals.specs.Counted.{Counted}
+use Rattle.refusals.specs.Counted.{Count, Refused as NotCounted}
+use Rattle.refusals.specs.Outcome.{Outcome, Done, Refused}
 use Rattle.refusals.specs.Ending.{Ended, first_refuses, second_decides}
 use Rattle.refusals.specs.Rules.{Rule, fault, unless_refused}
 use Rattle.params.specs.declared.Parameters.{Parameters}
@@ -56,6 +57,10 @@ module _ {c : Parameters} {h : List ℕ} {s : Setting} {others words : Bool} {co
     pub begun_long : {l : ℕ} → l ≡ places s → l ≡ length (take k columns)
     begun_long q = q ∙ sym (ap length begun_numbered ∙ length_columns c s)
 
+    -- so the list is long enough
+    pub begun_fits : k ≤ length columns
+    begun_fits = omega (arith, begun_long begun_places, length-take k columns)
+
     -- What holds for the columns found holds at the setting: the rules of the call's own, and the value, depend on the columns.
     pub begun_passes : {A : Type 0} (more : List ℕ → List Rule) (refused : ℕ → A) (value : List ℕ → A) {x : A}
         → x ≡ unless_refused (fault (more (take k columns))) refused (value (take k columns))
@@ -66,12 +71,12 @@ module _ {c : Parameters} {h : List ℕ} {s : Setting} {others words : Bool} {co
         (q ∙ ap (λ (cols : List ℕ). unless_refused (fault (more cols)) refused (value cols)) begun_numbered)
 
     -- an outcome and a buffer at once
-    pub begun_ends : (more : List ℕ → List Rule) (value : List ℕ → List ℕ) {j : ℕ} {old new : List ℕ}
+    pub begun_ends : (more : List ℕ → List Rule) (value : List ℕ → List ℕ) {j : Outcome} {old new : List ℕ}
         → Ended j (more (take k columns)) old (value (take k columns)) new
-        → (unless_refused j Refused Done ≡ unless_refused (fault (setting_rules c h s others words ++ more (columns_of c s))) Refused Done)
+        → (j ≡ unless_refused (fault (setting_rules c h s others words ++ more (columns_of c s))) Refused Done)
         × (new ≡ unless_refused (fault (setting_rules c h s others words ++ more (columns_of c s))) (λ i. old) (value (columns_of c s)))
     begun_ends more value {j} {old} E = (
-      begun_passes more Refused (λ cols. Done) (ap (λ (i : ℕ). unless_refused i Refused Done) E.number),
+      begun_passes more Refused (λ cols. Done) E.outcome,
       begun_passes more (λ i. old) value E.buffer,
     )
 
@@ -84,3 +89,9 @@ begun_as {c} {h} {s} {others} {columns = columns} {found = found} B e = subst (�
 pub begun_sent : (words : ℕ → Bool) {c : Parameters} {h : List ℕ} {s : Setting} {others : Bool} {n : ℕ} {columns : List ℕ} {found : Counted}
     → Begun c h s others (words n) columns found → n ≡ places s → Begun c h s others (words (places s)) columns found
 begun_sent words B e = begun_as B (ap words e)
+
+-- the same at the setting by its definition, which the call made first
+pub begun_set : (words : ℕ → Bool) {c : Parameters} {h : List ℕ} {s s' : Setting} {others : Bool} {n : ℕ} {columns : List ℕ} {found : Counted}
+    → Begun c h s others (words n) columns found → n ≡ places s → s ≡ s' → Begun c h s' others (words (places s')) columns found
+begun_set words {c} {h} {others = others} {columns = columns} {found = found} B e is =
+    subst (λ (s : Setting). Begun c h s others (words (places s)) columns found) is (begun_sent words B e)

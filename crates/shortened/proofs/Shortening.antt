@@ -1,15 +1,15 @@
 -- How the functions that begin a call end, once the columns of all places are found: refused by what refused those, or as the marks say.
 use mathlib.Core.Path.{◌≡◌, sym, ap, ◌∙◌, subst}
 use mathlib.Core.Bool.{Bool}
-use mathlib.Core.List.{List, ◌++◌}
+use mathlib.Core.List.{List}
 use Prim.Native.Nat.{ℕ, ◌≤◌}
 use lib.Dec.{eqb}
 use lib.ListN.{length, take}
 use borrow.Author.Tests.{eqb-true}
-use Rattle.refusals.specs.declared.Counted.{Counted}
-use Rattle.refusals.specs.declared.Counted.TheVariants.{Count, Refused}
+use Rattle.refusals.specs.Counted.{Counted}
+use Rattle.refusals.specs.Counted.{Count, Refused}
 use Rattle.refusals.specs.Rules.{fault, unless_refused}
-use Rattle.refusals.specs.RuleLaws.{first_holds, fault_rest, given}
+use Rattle.refusals.specs.RuleLaws.{first_holds, fault_rest}
 use Rattle.slices.specs.Lengths.{longest}
 use Rattle.params.specs.declared.Parameters.{Parameters}
 use Rattle.parity.specs.Selected.{OnColumns}
@@ -17,7 +17,7 @@ use Rattle.columns.specs.Choice.{Choice, all_places, all_columns, choice_rules}
 use Rattle.columns.proofs.ChoiceLaws.{choice_numbered, all_short}
 use Rattle.columns.specs.Listed.{Listed}
 use Rattle.columns.proofs.ListedLaws.{found_due, listed_refuses, listed_none, listed_places, listed_accepted, listed_numbered, listed_columns}
-use Rattle.columns.proofs.ListedLaws.{found_none, listed_passes}
+use Rattle.columns.proofs.ListedLaws.{listed_passes}
 use Rattle.shortened.specs.Begun.{Begun}
 use Rattle.shortened.specs.Marks.{sent_count, sent_of, mark_rules}
 use Rattle.shortened.specs.Setting.{shortened, columns_of, setting_rules}
@@ -75,14 +75,3 @@ module _ (hidden : List ℕ) {c : Parameters} {h : List ℕ} {choice : Choice} {
               ∙ none)
               ∙ ap (sent_of hidden) all_numbered;
         }
-
--- a call that has begun has found the columns of all places
-pub begun_listed : (hidden : List ℕ) {c : Parameters} {h : List ℕ} {choice : Choice} {others words : Bool} {columns columns' : List ℕ}
-    {found r : Counted}
-    → Listed c h choice others (eqb (length hidden) (all_places c choice)) columns found
-    → Begun c h (shortened choice hidden) others words columns' r → {k : ℕ} → r ≡ Count k → found ≡ Count (all_places c choice)
-unfolding setting_rules
-begun_listed hidden {c} {h} {choice} {others} {words} L B e =
-    let rules = choice_rules c h choice others (eqb (length hidden) (all_places c choice)) in
-    let more = mark_rules c h (all_columns c choice) hidden words in
-    L.answer ∙ given Refused (Count (all_places c choice)) (first_holds rules more (found_none (rules ++ more) (sent_count hidden) B.answer e).0)

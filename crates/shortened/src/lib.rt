@@ -1,29 +1,75 @@
 // Short words (01's "hidden"; in coding theory the shortened code): which places of a word are sent. A mark for each place says so, 0 for sent and 1
 // for hidden. A hidden place is a message column, always holds 0 and is not sent, so that a word is one over the columns that are left.
 //
-// A call on words begins here. The functions that begin a call answer the number of sent places, with as many columns at the front of `columns`, or
-// the number that refuses the call.
+// A call on words begins here.
 #![tactic(auto)]
 
-ghost use Rattle.std.specs.Prelude.{◌≡◌, ℕ, ◌≤◌, eqb, length, take};
+ghost use Rattle.std.specs.Prelude.{◌≡◌, ℕ, ◌≤◌, length, take};
+ghost use Rattle.refusals.specs.Outcome.{tested};
 ghost use Rattle.refusals.specs.Rules.{fault, unless_refused};
-ghost use Rattle.refusals.specs.declared.Counted.TheVariants.{Count, Refused};
+ghost use Rattle.refusals.specs.Counted.{Count, Refused};
 ghost use Rattle.slices.specs.Lengths.{longest};
 ghost use Rattle.signature.specs.Inverses.{Inverted};
 ghost use Rattle.basis.specs.Table.{free_at};
 ghost use Rattle.parity.specs.Selected.{OnColumns};
-ghost use Rattle.columns.specs.Listed.{ListedSome, WhateverListed};
+ghost use Rattle.parity.specs.OfCode.{of_code};
 ghost use Rattle.shortened.specs.Marks.{sent_count, sent_of, hidden_pass, hides_messages, mark_rules};
-ghost use Rattle.shortened.specs.Setting.{shortened, short_code, short_selection};
+ghost use Rattle.shortened.specs.Setting.{places, short_code, short_selection};
 ghost use Rattle.shortened.specs.Begun.{Begun};
 
 use basis::Column;
-use columns::{Lengths, is_parts_length, selected_columns, whole_columns};
+use basis::elimination::Basis;
+use columns::{Choice, Lengths, choose_columns, is_all_places};
 use field::Elem;
 use messages::message_columns;
 use params::Parameters;
-use refusals::Counted;
-use slices::{LONGEST, all_bits};
+use parity::Code;
+use refusals::{Refusal, Rule};
+use slices::all_bits;
+use std::marker::Model;
+
+// What a call on words is about: which of the code's columns the places stand for, and a mark for each place.
+#[derive(Drop)]
+pub struct Setting<'a> {
+    pub choice: Choice<'a>,
+    pub hidden: &'a [u8],
+}
+
+impl<'a> Model for Setting<'a> {
+    ghost use Rattle.columns.specs.Lent.{choice_of};
+    ghost use Rattle.shortened.specs.Setting.{Setting as SettingValue, shortened};
+
+    ghost Value = { SettingValue };
+
+    ghost view = { λ s. shortened (choice_of s.choice) s.hidden.now };
+}
+
+impl<'a> Setting<'a> {
+    pub fn whole_code(hidden: &'a [u8]) -> Setting<'a>
+        ensures { result ≡ short_code hidden.now }
+    {
+        Setting {
+            choice: Choice::WholeCode,
+            hidden,
+        }
+    }
+
+    pub fn selection(blocks: &'a [u32], shifts: &'a [u32], hidden: &'a [u8]) -> Setting<'a>
+        ensures { result ≡ short_selection blocks.now shifts.now hidden.now }
+    {
+        Setting {
+            choice: Choice::Selection { blocks, shifts },
+            hidden,
+        }
+    }
+
+    // The number of places that are sent, which is the length of a word.
+    pub fn places(&self) -> usize
+        ensures { result ≡ places self.now }
+    {
+        sent_places(self.hidden)
+    }
+}
 
 // Whether the buffers lent to a call have their lengths: the words, with an entry for each sent place, and others, whose lengths the code alone
 // tells.
@@ -38,8 +84,8 @@ pub fn sent_places(hidden: &[u8]) -> usize
     ensures { result ≡ sent_count hidden.now }
 {
     let mut sent = 0;
-    for p in 0..hidden.len() {
-        if hidden[p] == 0 {
+    for mark in hidden {
+        if *mark == 0 {
             sent += 1;
         }
     }
@@ -51,8 +97,8 @@ fn hides_free(hidden: &[u8], leads: &[u8]) -> bool
     requires { length hidden.now ≤ length leads.now }
     ensures { result ≡ hidden_pass hidden.now (free_at leads.now) }
 {
-    for p in 0..hidden.len() {
-        if (hidden[p] != 0) & (leads[p] == 1) {
+    for (p, mark) in hidden.iter().enumerate() {
+        if (*mark != 0) & (leads[p] == 1) {
             return false;
         }
     }
@@ -60,34 +106,34 @@ fn hides_free(hidden: &[u8], leads: &[u8]) -> bool
 }
 
 // Whether every hidden place is a message column, of an accepted code and any list of its columns.
-fn hides_messages(c: Parameters, h: &[Elem], cols: &[Column], hidden: &[u8]) -> bool
-    requires { OnColumns c h.now cols.now × (length hidden.now ≡ length cols.now) }
-    ensures { result ≡ hides_messages c h.now cols.now hidden.now }
+fn hides_messages(code: &Code<'_>, hidden: &[u8]) -> bool
+    requires { length hidden.now ≡ length code.now.cols.now }
+    ensures { result ≡ of_code hides_messages code.now hidden.now }
 {
     // Where nothing is hidden, there is no need to know which columns are message columns.
     if sent_places(hidden) == hidden.len() {
         return true;
     }
-    let mut leads: [u8; LONGEST] = [0; LONGEST];
-    message_columns(c, h, cols, &mut leads);
-    hides_free(hidden, &leads)
+    let mut basis = Basis::new();
+    message_columns(code, &mut basis);
+    hides_free(hidden, &basis.leads)
 }
 
-// The number for the marks of an accepted code's columns: 20, then 2, where `words` says whether the lent words have their length.
-pub fn mark_fault(c: Parameters, h: &[Elem], cols: &[Column], hidden: &[u8], words: bool) -> u32
-    requires { OnColumns c h.now cols.now × (length hidden.now ≡ length cols.now) }
-    ensures { result ≡ fault (mark_rules c h.now cols.now hidden.now words) }
+// Whether the marks of an accepted code's columns keep their rules: 20, then 2, where `words` says whether the lent words have their length.
+pub fn check_marks(code: &Code<'_>, hidden: &[u8], words: bool) -> Result<(), Refusal>
+    requires { length hidden.now ≡ length code.now.cols.now }
+    ensures { result ≡ tested (fault (of_code mark_rules code.now hidden.now words)) }
 {
     if !all_bits(hidden) {
-        return refusals::HIDDEN;
+        return Err(Refusal(Rule::Hidden));
     }
-    if !hides_messages(c, h, cols, hidden) {
-        return refusals::HIDDEN;
+    if !hides_messages(code, hidden) {
+        return Err(Refusal(Rule::Hidden));
     }
     if !words {
-        return refusals::LENGTH;
+        return Err(Refusal(Rule::Length));
     }
-    0
+    Ok(())
 }
 
 // Leaves the columns of the sent places at the front, and says how many they are.
@@ -97,8 +143,8 @@ fn keep_sent(hidden: &[u8], columns: &mut [Column]) -> usize
     ensures columns_after { take (sent_count hidden.now) columns.new ≡ sent_of hidden.now columns.old }
 {
     let mut kept = 0;
-    for j in 0..hidden.len() {
-        if hidden[j] == 0 {
+    for (j, hide) in hidden.iter().enumerate() {
+        if *hide == 0 {
             columns[kept] = columns[j];
             kept += 1;
         }
@@ -113,7 +159,7 @@ fn sent_columns(
     hidden: &[u8],
     words: bool,
     columns: &mut [Column],
-) -> Counted
+) -> Result<usize, Refusal>
     requires { OnColumns c h.now (take (length hidden.now) columns.old) × (length hidden.now ≤ length columns.old) }
     ensures value { result
         ≡ unless_refused (fault (mark_rules c h.now (take (length hidden.now) columns.old)
@@ -123,106 +169,33 @@ fn sent_columns(
         → take (sent_count hidden.now) columns.new
         ≡ sent_of hidden.now (take (length hidden.now) columns.old) }
 {
-    let number = mark_fault(c, h, &columns[..hidden.len()], hidden, words);
-    if number != 0 {
-        return Counted::Refused(number);
-    }
-    Counted::Count(keep_sent(hidden, columns) as u32)
+    let code = Code {
+        c,
+        h,
+        cols: &columns[..hidden.len()],
+    };
+    check_marks(&code, hidden, words)?;
+    Ok(keep_sent(hidden, columns))
 }
 
-// Goes on where the columns of all places were found: the marks are tested, and the columns of the sent places are left.
-fn shorten(
+// Begins a call on words: the code is tested, what is lent, and the marks. Gives the number of sent places, with as many columns at the front of
+// `columns`. Where the call is not refused `inverses` begins with the inverses of the signature's entries.
+pub fn begin(
     c: Parameters,
     h: &[Elem],
-    hidden: &[u8],
-    lent: Lent,
-    found: Counted,
-    columns: &mut [Column],
-) -> Counted
-    requires { ListedSome c h.now lent.others (eqb (length hidden.now)) columns.old found × (longest ≤ length columns.old) }
-    ensures { WhateverListed c h.now lent.others (eqb (length hidden.now)) columns.old found
-        (λ choice. Begun c h.now (shortened choice hidden.now) lent.others lent.words columns.new result) }
-{
-    match found {
-        Counted::Refused(number) => Counted::Refused(number),
-        Counted::Count(_) => sent_columns(c, h, hidden, lent.words, columns),
-    }
-}
-
-// Begins a call on words of the whole code.
-pub fn whole_code(
-    c: Parameters,
-    h: &[Elem],
-    hidden: &[u8],
-    lent: Lent,
-    columns: &mut [Column],
-) -> Counted
-    requires { longest ≤ length columns.old }
-    ensures { Begun c h.now (short_code hidden.now) lent.others lent.words columns.new result }
-{
-    let mut inverses: [Elem; LONGEST] = [0; LONGEST];
-    whole_code_inverses(c, h, hidden, lent, &mut inverses, columns)
-}
-
-// The same, and where it is not refused `inverses` begins with the inverses of the signature's entries.
-pub fn whole_code_inverses(
-    c: Parameters,
-    h: &[Elem],
-    hidden: &[u8],
+    s: &Setting<'_>,
     lent: Lent,
     inverses: &mut [Elem],
     columns: &mut [Column],
-) -> Counted
+) -> Result<usize, Refusal>
     requires { (longest ≤ length inverses.old) × (longest ≤ length columns.old) }
-    ensures begun { Begun c h.now (short_code hidden.now) lent.others lent.words columns.new result }
+    ensures begun { Begun c h.now s.now lent.others lent.words columns.new result }
     ensures by_index { (k : ℕ) → result ≡ Count k → Inverted c.m h.now inverses.new }
 {
     let lengths = Lengths {
         others: lent.others,
-        places: hidden.len() == c.n as usize,
+        places: is_all_places(c, s.choice, s.hidden.len()),
     };
-    let found = whole_columns(c, h, lengths, inverses, columns);
-    shorten(c, h, hidden, lent, found, columns)
-}
-
-// Begins a call on words of a selection.
-pub fn selected_code(
-    c: Parameters,
-    h: &[Elem],
-    blocks: &[u32],
-    shifts: &[u32],
-    hidden: &[u8],
-    lent: Lent,
-    columns: &mut [Column],
-) -> Counted
-    requires { longest ≤ length columns.old }
-    ensures { Begun c h.now (short_selection blocks.now shifts.now hidden.now)
-        lent.others lent.words columns.new result }
-{
-    let mut inverses: [Elem; LONGEST] = [0; LONGEST];
-    selected_code_inverses(c, h, blocks, shifts, hidden, lent, &mut inverses, columns)
-}
-
-// The same, and where it is not refused `inverses` begins with the inverses of the signature's entries.
-pub fn selected_code_inverses(
-    c: Parameters,
-    h: &[Elem],
-    blocks: &[u32],
-    shifts: &[u32],
-    hidden: &[u8],
-    lent: Lent,
-    inverses: &mut [Elem],
-    columns: &mut [Column],
-) -> Counted
-    requires { (longest ≤ length inverses.old) × (longest ≤ length columns.old) }
-    ensures begun { Begun c h.now (short_selection blocks.now shifts.now hidden.now)
-        lent.others lent.words columns.new result }
-    ensures by_index { (k : ℕ) → result ≡ Count k → Inverted c.m h.now inverses.new }
-{
-    let lengths = Lengths {
-        others: lent.others,
-        places: is_parts_length(hidden.len(), blocks.len(), c.t as usize),
-    };
-    let found = selected_columns(c, h, blocks, shifts, lengths, inverses, columns);
-    shorten(c, h, hidden, lent, found, columns)
+    choose_columns(c, h, s.choice, lengths, inverses, columns)?;
+    sent_columns(c, h, s.hidden, lent.words, columns)
 }

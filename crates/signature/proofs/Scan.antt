@@ -1,11 +1,14 @@
 -- The loops of this crate, over plain numbers and lists: what holds at their begin, at each turn and at their end.
 use mathlib.Core.Path.{◌≡◌, sym, ap, ap₂, ◌∙◌, subst}
-use mathlib.Core.Bool.{Bool, true, false, ◌&&◌}
-use mathlib.Core.List.{List}
-use Prim.Native.Nat.{ℕ, ◌+◌, ◌<◌}
+use mathlib.Core.Bool.{Bool, true, false, not, ◌&&◌, false≢true}
+use mathlib.Core.List.{List, ◌∷◌}
+use Prim.Native.Nat.{ℕ, zero, suc, ◌+◌, ◌<◌}
+use native.Mathlib.Omega.{arith}
 use native.Mathlib.Numerals.{add-one}
+use lib.Dec.{eqb}
 use lib.ListN.{length}
-use borrow.Author.Tests.{eq-eqb, ne_eqb}
+use Rattle.std.specs.List.{IsAnyAnswer}
+use borrow.Author.Tests.{eq-eqb, eqb-true, ne_eqb}
 use Rattle.algebra.specs.All.{all}
 use Rattle.algebra.specs.AllLaws.{all-false}
 use Rattle.algebra.specs.Distinct.{distinct}
@@ -57,3 +60,17 @@ module _ (h : List ℕ) where
       (distinct_is h).1
       (λ i j l lj e.
       let (k, p, lk, q) = repeated i j l lj e in none k p lk q)
+
+-- the first entry looked for among the others
+pub first_among : (first : ℕ) (others : List ℕ) (r : Bool) → EqualToFirst (first ∷ others) → IsAnyAnswer (λ y b. eqb y first ≡ b) others r
+    → not r ≡ distinct (first ∷ others)
+first_among first others true repeated (k, l, found) =
+    sym (first_twice (first ∷ others) (suc k) (omega arith) (omega arith) (sym (eqb-true _ first (found 0))))
+first_among first others false repeated each = sym (first_once (first ∷ others) repeated none)
+  where
+    none : (k : ℕ) → 0 < k → k < length (first ∷ others) → entry_of (first ∷ others) 0 ≡ entry_of (first ∷ others) k → ⊥
+    none zero p l e = omega arith
+    none (suc k) p l e = false≢true (sym (each k 0 (omega arith) (omega arith)) ∙ eq-eqb _ first (sym e))
+
+pub none_different : (h : List ℕ) → length h ≡ 0 → true ≡ distinct h
+none_different h z = sym ((distinct_is h).1 (λ i j l lj e. omega arith))

@@ -8,6 +8,7 @@ ghost use Rattle.algebra.specs.Lists.{entry_of};
 ghost use Rattle.algebra.specs.Tabulate.{tabulate};
 ghost use Rattle.algebra.specs.Filling.{filled};
 ghost use Rattle.refusals.specs.Rules.{fault};
+ghost use Rattle.refusals.specs.Outcome.{Done, tested};
 ghost use Rattle.slices.specs.Lengths.{is_power};
 ghost use Rattle.signature.specs.Inverses.{added, Entries, Inverted, before};
 ghost use Rattle.signature.specs.Tests.{no_zero, affine, linear, signature_rules};
@@ -15,35 +16,31 @@ ghost use Rattle.signature.specs.TestLaws.{EqualToFirst};
 
 use field::Elem;
 use field::internal::{inverse, product};
+use refusals::{Refusal, Rule};
 
 // 4 to 6: 01's three conditions on a signature.
-pub fn signature_fault(m: u32, h: &[Elem], inverses: &mut [Elem]) -> u32
+pub fn check_signature(m: u32, h: &[Elem], inverses: &mut [Elem]) -> Result<(), Refusal>
     requires { Entries m h.now inverses.old }
-    ensures value { result ≡ fault (signature_rules m h.now) }
-    ensures inverted { result ≡ 0 → Inverted m h.now inverses.new }
+    ensures value { result ≡ tested (fault (signature_rules m h.now)) }
+    ensures inverted { result ≡ Done → Inverted m h.now inverses.new }
 {
     if !no_zero(h) {
-        return refusals::ZERO;
+        return Err(Refusal(Rule::Zero));
     }
     if !is_linear(m, h, inverses) {
-        return refusals::NOT_LINEAR;
+        return Err(Refusal(Rule::NotLinear));
     }
     if !all_different(h) {
-        return refusals::REPEATED;
+        return Err(Refusal(Rule::Repeated));
     }
-    0
+    Ok(())
 }
 
 // Whether no entry is zero.
 pub fn no_zero(h: &[Elem]) -> bool
     ensures { result ≡ no_zero h.now }
 {
-    for i in 0..h.len() {
-        if h[i] == 0 {
-            return false;
-        }
-    }
-    true
+    h.iter().all(|x| *x != 0)
 }
 
 // 01's rule for 1/h. The inverses are computed once.
@@ -64,9 +61,8 @@ pub fn invert(m: u32, h: &[Elem], inverses: &mut [Elem])
 {
     let all = multiply(m, h, inverses);
     let mut rest = inverse(m, all);
-    let mut i = h.len();
-    while 0 < i {
-        i -= 1;
+    // By index, downwards: two lists are read at it, and one is written.
+    for i in (0..h.len()).rev() {
         inverses[i] = product(m, inverses[i], rest);
         rest = product(m, rest, h[i]);
     }
@@ -79,9 +75,9 @@ fn multiply(m: u32, h: &[Elem], products: &mut [Elem]) -> Elem
     ensures products_after { products.new ≡ filled (before m h.now) (length h.now) products.old }
 {
     let mut before: Elem = 1;
-    for i in 0..h.len() {
+    for (i, entry) in h.iter().enumerate() {
         products[i] = before;
-        before = product(m, before, h[i]);
+        before = product(m, before, *entry);
     }
     before
 }
@@ -92,6 +88,7 @@ fn is_affine(n: usize, inverses: &[Elem]) -> bool
     ensures { result ≡ affine n (entry_of inverses.now) }
 {
     let mut kept = true;
+    // Nested loops left by a label: the form that the owner asks for here.
     'scan: for i in 0..n {
         let sum = inverses[i] ^ inverses[0];
         for j in 0..n {
@@ -111,14 +108,10 @@ pub fn all_different(h: &[Elem]) -> bool
     requires { EqualToFirst h.now }
     ensures { result ≡ distinct h.now }
 {
-    for i in 1..h.len() {
-        let first = h[0];
-        let other = h[i];
-        if first == other {
-            return false;
-        }
+    match h.split_first() {
+        Some((first, others)) => !others.contains(first),
+        None => true,
     }
-    true
 }
 
 // The roots that the inverses and the offset give, as many as the buffer holds.
@@ -144,7 +137,7 @@ fn add_each(a: &[Elem], x: Elem, out: &mut [Elem])
     requires { length out.old ≤ length a.now }
     ensures { out.new ≡ tabulate (length out.old) (added a.now x) }
 {
-    for i in 0..out.len() {
-        out[i] = a[i] ^ x;
+    for (i, to) in out.iter_mut().enumerate() {
+        *to = a[i] ^ x;
     }
 }

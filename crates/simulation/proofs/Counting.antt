@@ -1,10 +1,10 @@
 -- Four counts in a buffer, and what a step adds to them.
-use mathlib.Core.Path.{◌≡◌, refl, sym, ap₂}
+use mathlib.Core.Path.{◌≡◌, refl, sym, ap, ap₂, ◌∙◌}
 use mathlib.Core.List.{List, [], ◌∷◌}
 use Prim.Native.Nat.{ℕ, suc, ◌+◌}
 use native.Mathlib.Nat.{add-zero}
 use native.Mathlib.Omega.{arith}
-use lib.ListN.{length, set}
+use lib.ListN.{length, set, replicate}
 use Rattle.algebra.specs.Lists.{entry_of}
 use Rattle.simulation.specs.declared.Verdict.{Verdict}
 use Rattle.simulation.specs.declared.Verdict.TheVariants.{Right, Held, Wrong}
@@ -25,6 +25,10 @@ four P f (a ∷ b ∷ []) e = absurd (omega arith)
 four P f (a ∷ b ∷ c ∷ []) e = absurd (omega arith)
 four P f (a ∷ b ∷ c ∷ d ∷ []) e = f a b c d
 four P f (a ∷ b ∷ c ∷ d ∷ x ∷ l) e = absurd (omega arith)
+
+-- no step was counted yet
+pub cleared : (l : List ℕ) {new : List ℕ} → length l ≡ 4 → new ≡ replicate (length l) 0 → new ≡ 0 ∷ 0 ∷ 0 ∷ 0 ∷ []
+cleared l long is = is ∙ ap (λ (n : ℕ). replicate n 0) long
 
 pub right_counted : (l : List ℕ) → length l ≡ 4 → Counted 1 Right l
 unfolding tallied

@@ -1,5 +1,5 @@
 -- The marks of step i lie inside all marks, and are bits where nothing refuses the step.
-use mathlib.Core.Path.{◌≡◌, sym, subst}
+use mathlib.Core.Path.{◌≡◌, sym, ap, ap₂, ◌∙◌, subst}
 use mathlib.Core.List.{List}
 use Prim.Native.Nat.{ℕ, ◌+◌, ◌*◌, ◌<◌, ◌≤◌}
 use native.Mathlib.Nat.{le_trans, mul-le-mul_left, mul-le-mul_right}
@@ -18,6 +18,10 @@ use Rattle.simulation.specs.Steps.{Steps, step_count, step_rules}
 pub step_bits : (gear lamp : ℕ) (marks : List ℕ) → fault (step_rules gear lamp marks) ≡ 0 → Bits marks
 unfolding step_rules
 step_bits gear lamp marks none = (bits_are marks).0 (hold (step_rules gear lamp marks) tt none).0
+
+-- what a step comes to, by the same gear, lamp and marks
+pub step_alike : {A : Type 0} (f : ℕ → ℕ → List ℕ → A) {g g' l l' : ℕ} {m m' : List ℕ} → g ≡ g' → l ≡ l' → m ≡ m' → f g l m ≡ f g' l' m'
+step_alike f {g' = g'} {l} {m = m} p q r = ap (λ (x : ℕ). f x l m) p ∙ ap₂ (f g') q r
 
 module _ {n : ℕ} {σ : Steps} {counts : List ℕ} (L : LentSteps n σ counts) {i : ℕ} (l : i < step_count σ) where
   pub part_inside : i * n + n ≤ length σ.turned

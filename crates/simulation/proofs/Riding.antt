@@ -8,7 +8,10 @@ use native.Mathlib.Numerals.{add-one}
 use native.Mathlib.Omega.{arith}
 use lib.ListN.{length}
 use Rattle.algebra.specs.Lists.{entry_of}
+use Rattle.std.specs.Result.{IsErrAnd}
+use Rattle.refusals.specs.Outcome.{Outcome, Done, Refused, tested}
 use Rattle.refusals.specs.Rules.{fault}
+use Rattle.refusals.specs.Testing.{passes, tested_due, handed_on}
 use Rattle.params.specs.declared.Parameters.{Parameters}
 use Rattle.simulation.specs.declared.Verdict.{Verdict}
 use Rattle.simulation.specs.Steps.{Steps, step_count, rules_at}
@@ -44,10 +47,10 @@ module _ {c : Parameters} {h cols : List ℕ} {σ : Steps} {i : ℕ} {counts : L
       few : {x : ℕ} → x ≤ i → x < 2 ^ 32 - 1
       few l = omega (arith, R.bound)
 
-  pub riding_turn : {number : ℕ} {v : Verdict} {new : List ℕ} → i < step_count σ → number ≡ fault (rules_at (length cols) σ i) → number ≡ 0
+  pub riding_turn : {v : Verdict} {new : List ℕ} → i < step_count σ → fault (rules_at (length cols) σ i) ≡ 0
       → v ≡ verdict_at c h cols σ i → new ≡ tallied v counts → Riding c h cols σ (i + 1) new
-  riding_turn {v = v} l due none is e =
-      let pass = pass_suc (length cols) σ R.passed (sym due ∙ none) in
+  riding_turn {v = v} l none is e =
+      let pass = pass_suc (length cols) σ R.passed none in
       let next = sym (add-one i) in
       record {
         bound = omega arith;
@@ -56,20 +59,22 @@ module _ {c : Parameters} {h cols : List ℕ} {σ : Steps} {i : ℕ} {counts : L
       }
 
   -- a step that is refused ends the ride
-  pub riding_stops : {number : ℕ} → i < step_count σ → number ≡ fault (rules_at (length cols) σ i) → number ≢ 0 → StepsRidden c h cols σ number counts
+  pub riding_stops : {number : ℕ} (r : Outcome) → i < step_count σ → Refused number ≡ tested (fault (rules_at (length cols) σ i))
+      → IsErrAnd r (λ y. y ≡ number) → StepsRidden c h cols σ r counts
   unfolding ride_counts
-  riding_stops l due ne =
+  riding_stops r l is e =
+      let (ne, due) = tested_due is in
       let broken : fault (rules_at (length cols) σ i) ≢ 0 = λ z. ne (due ∙ z) in
       record {
-        number_is = due ∙ sym (steps_stop (length cols) σ (step_count σ) l R.passed broken);
+        outcome = handed_on r e ∙ is ∙ ap tested (sym (steps_stop (length cols) σ (step_count σ) l R.passed broken));
         counts_are = R.so_far ∙ sym (counts_stop c h cols σ R.bound broken);
       }
 
-  pub riding_ends : step_count σ ≤ i → StepsRidden c h cols σ 0 counts
+  pub riding_ends : step_count σ ≤ i → StepsRidden c h cols σ Done counts
   unfolding ride_counts
   riding_ends l =
       let all : i ≡ step_count σ = omega (arith, R.bound) in
       record {
-        number_is = sym (steps_pass (length cols) σ (step_count σ) (subst (PassBelow (length cols) σ) all R.passed));
+        outcome = passes (steps_pass (length cols) σ (step_count σ) (subst (PassBelow (length cols) σ) all R.passed));
         counts_are = R.so_far ∙ ap (counts_up_to c h cols σ) all;
       }

@@ -1,8 +1,8 @@
 -- What a ride answers, and what it leaves in the lent buffer, for every input.
 use Rattle.std.specs.Prelude.{Bool, ◌&&◌, List, [], ◌∷◌, ◌++◌, ℕ, ◌*◌, eqb, leb, length}
 use Rattle.refusals.specs.Rules.{Rule, ◌unless◌, fault, unless_refused}
-use Rattle.refusals.specs.declared.Outcome.{Outcome}
-use Rattle.refusals.specs.declared.Outcome.TheVariants.{Done, Refused}
+use Rattle.refusals.specs.Outcome.{Outcome}
+use Rattle.refusals.specs.Outcome.{Done, Refused}
 use Rattle.params.specs.declared.Parameters.{Parameters}
 use Rattle.parity.specs.Columns.{dimension}
 use Rattle.shortened.specs.Setting.{Setting, places, columns_of, setting_rules}

@@ -1,6 +1,7 @@
 -- What the parts of a ride hand to one another.
 use Rattle.std.specs.Prelude.{◌≡◌, cond, List, [], ◌∷◌, ℕ, ◌+◌, ◌-◌, ◌^◌, ◌<◌, length}
 use Rattle.algebra.specs.Lists.{entry_of}
+use Rattle.refusals.specs.Outcome.{Outcome, tested}
 use Rattle.refusals.specs.Rules.{fault, unless_refused}
 use Rattle.params.specs.declared.Parameters.{Parameters}
 use Rattle.basis.specs.Table.{Carried}
@@ -28,12 +29,12 @@ pub record Sent (n : ℕ) (rows leads message marks new : List ℕ) : Type 0 whe
   pub long : length word ≡ n
   pub turned_is : new ≡ turned n (is_marked marks) word
 
--- what the steps of a ride come to, for a list of columns: the number of the first that is refused, and the counts
-pub record StepsRidden (c : Parameters) (h cols : List ℕ) (σ : Steps) (number : ℕ) (counts : List ℕ) : Type 0 where
-  pub number_is : number ≡ fault (steps_rules (length cols) σ (step_count σ))
+-- what the steps of a ride come to, for a list of columns: what refuses the first that is refused, and the counts
+pub record StepsRidden (c : Parameters) (h cols : List ℕ) (σ : Steps) (found : Outcome) (counts : List ℕ) : Type 0 where
+  pub outcome : found ≡ tested (fault (steps_rules (length cols) σ (step_count σ)))
   pub counts_are : counts ≡ ride_counts c h cols σ
 
 -- the same with what is looked for before the ride starts, which leaves the counts at `old`
-pub record RideEnded (c : Parameters) (h cols : List ℕ) (σ : Steps) (old : List ℕ) (number : ℕ) (counts : List ℕ) : Type 0 where
-  pub number_is : number ≡ fault (ride_rules c h cols σ)
+pub record RideEnded (c : Parameters) (h cols : List ℕ) (σ : Steps) (old : List ℕ) (found : Outcome) (counts : List ℕ) : Type 0 where
+  pub outcome : found ≡ tested (fault (ride_rules c h cols σ))
   pub counts_are : counts ≡ unless_refused (fault (start_rules c h cols)) (λ k. old) (ride_counts c h cols σ)

@@ -7,8 +7,7 @@
 mod steps;
 
 ghost use Rattle.std.specs.Prelude.{◌≡◌, length};
-ghost use Rattle.signature.specs.Inverses.{Inverted};
-ghost use Rattle.parity.specs.Selected.{OnColumns};
+ghost use Rattle.parity.specs.OfCode.{OfCode};
 ghost use Rattle.shortened.specs.Setting.{short_code};
 ghost use Rattle.simulation.specs.Steps.{steps_of};
 ghost use Rattle.simulation.specs.Answers.{ride_answer, ride_after};
@@ -16,21 +15,23 @@ ghost use Rattle.simulation.specs.Lent.{LentSteps};
 ghost use Rattle.simulation.specs.Parts.{RideEnded};
 
 use basis::Column;
-use basis::packed::ROW;
+use basis::elimination::Basis;
 use columns::is_parts_length;
 use field::Elem;
 use gears::ROW_BITS;
 use messages::code_basis;
+use nearest::Decoder;
 use params::Parameters;
-use refusals::{Counted, Outcome, ended};
-use shortened::{Lent, sent_places, whole_code_inverses};
+use parity::Code;
+use refusals::{Refusal, Rule};
+use shortened::{Lent, Setting, begin};
 use slices::LONGEST;
 
 // The most steps of a ride.
 const LONGEST_RIDE: usize = 1000;
 
 // What a step ends in: the row is read as it was sent, reading refuses it, or another row is read.
-#[derive(Clone, Copy)]
+#[derive(Clone, Copy, Debug, PartialEq, Eq)]
 pub enum Verdict {
     Right,
     Held,
@@ -47,7 +48,7 @@ pub fn ride(
     lamps: &[u8],
     turned: &[u8],
     counts: &mut [u32],
-) -> Outcome
+) -> Result<(), Refusal>
     ensures value { result
         ≡ ride_answer c h.now (short_code hidden.now) (steps_of gears.now lamps.now turned.now)
         counts.old }
@@ -55,53 +56,44 @@ pub fn ride(
         ≡ ride_after c h.now (short_code hidden.now) (steps_of gears.now lamps.now turned.now)
         counts.old }
 {
+    let s = Setting::whole_code(hidden);
     let count = gears.len();
     let others = (count <= LONGEST_RIDE) & (lamps.len() == count) & (counts.len() == steps::COUNTS);
     let lent = Lent {
         others,
-        words: is_parts_length(turned.len(), count, sent_places(hidden)),
+        words: is_parts_length(turned.len(), count, s.places()),
     };
     let mut inverses: [Elem; LONGEST] = [0; LONGEST];
     let mut columns: [Column; LONGEST] = [0; LONGEST];
-    let found = whole_code_inverses(c, h, hidden, lent, &mut inverses, &mut columns);
-    match found {
-        Counted::Refused(number) => Outcome::Refused(number),
-        Counted::Count(n) => ended(ride_on(
-            c,
-            h,
-            &inverses,
-            &columns[..n as usize],
-            gears,
-            lamps,
-            turned,
-            counts,
-        )),
-    }
+    let n = begin(c, h, &s, lent, &mut inverses, &mut columns)?;
+    let code = Code {
+        c,
+        h,
+        cols: &columns[..n],
+    };
+    let decoder = Decoder {
+        code,
+        inverses: &inverses,
+    };
+    ride_on(&decoder, gears, lamps, turned, counts)
 }
 
-// The ride for an accepted code, whose inverses 1/h are known, and any list of its columns: 12, what ends the ride, or 0.
+// The ride for an accepted code and any list of its columns: 12, or what ends the ride.
 fn ride_on(
-    c: Parameters,
-    h: &[Elem],
-    inverses: &[Elem],
-    cols: &[Column],
+    decoder: &Decoder<'_, '_>,
     gears: &[u8],
     lamps: &[u8],
     turned: &[u8],
     counts: &mut [u32],
-) -> u32
-    requires on_columns { OnColumns c h.now cols.now × Inverted c.m h.now inverses.now }
-    requires lent_steps { LentSteps (length cols.now) (steps_of gears.now lamps.now turned.now) counts.old }
-    ensures { RideEnded c h.now cols.now (steps_of gears.now lamps.now turned.now)
+) -> Result<(), Refusal>
+    requires { LentSteps (length decoder.now.code.cols.now) (steps_of gears.now lamps.now turned.now) counts.old }
+    ensures { OfCode RideEnded decoder.now.code (steps_of gears.now lamps.now turned.now)
         counts.old result counts.new }
 {
-    let mut rows: [u64; LONGEST * ROW] = [0; LONGEST * ROW];
-    let mut leads: [u8; LONGEST] = [0; LONGEST];
-    let k = code_basis(c, h, cols, &mut rows, &mut leads);
+    let mut basis = Basis::new();
+    let k = code_basis(&decoder.code, &mut basis);
     if k < ROW_BITS {
-        return refusals::TOO_FEW_BITS;
+        return Err(Refusal(Rule::TooFewBits));
     }
-    steps::make_all(
-        c, h, inverses, cols, &rows, &leads, k, gears, lamps, turned, counts,
-    )
+    steps::make_all(decoder, &basis, k, gears, lamps, turned, counts)
 }

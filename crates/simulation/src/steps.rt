@@ -1,25 +1,24 @@
-// The steps of a ride, for an accepted code and any list of its columns: place j of a word is column cols_j. The code's inverses 1/h are known, and
-// its basis, with k message columns.
-ghost use Rattle.std.specs.Prelude.{◌≡◌, [], ◌∷◌, ◌≤◌, length};
+// The steps of a ride, for an accepted code and any list of its columns: place j of a word is column cols_j. The code's basis is known, with k
+// message columns.
+ghost use Rattle.std.specs.Prelude.{◌≡◌, ◌≤◌, length};
+ghost use Rattle.refusals.specs.Outcome.{tested};
 ghost use Rattle.refusals.specs.Rules.{fault};
 ghost use Rattle.slices.specs.Bits.{Bits};
-ghost use Rattle.signature.specs.Inverses.{Inverted};
 ghost use Rattle.basis.specs.Table.{Form, free_count};
-ghost use Rattle.parity.specs.Selected.{OnColumns};
+ghost use Rattle.parity.specs.OfCode.{of_code, OfCode};
 ghost use Rattle.messages.specs.CodeBasis.{CodeBasis};
 ghost use Rattle.nearest.specs.Turned.{turned};
 ghost use Rattle.gears.specs.Rows.{row_bits, row_message};
 ghost use Rattle.simulation.specs.Steps.{steps_of, step_rules};
 ghost use Rattle.simulation.specs.Ride.{verdict_of, is_marked, step_verdict};
-ghost use Rattle.simulation.specs.Answers.{counts_long};
 ghost use Rattle.simulation.specs.Lent.{LentSteps};
 ghost use Rattle.simulation.specs.Parts.{tallied, Countable, Sent, StepsRidden};
 
 use crate::Verdict;
-use basis::Column;
-use field::Elem;
-use gears::{is_row, lamp_number};
-use params::Parameters;
+use basis::elimination::Basis;
+use gears::is_row;
+use nearest::Decoder;
+use refusals::{Refusal, Rule};
 use rows::{Reading, based};
 use slices::{LONGEST, all_bits};
 
@@ -34,19 +33,19 @@ const WRONG: usize = 3;
 
 pub const COUNTS: usize = 4;
 
-// The number of a step that cannot be made: 8 before 11.
-fn step_fault(gear: u32, lamp: u32, marks: &[u8]) -> u32
-    ensures { result ≡ fault (step_rules gear lamp marks.now) }
+// Whether a step can be made: 8 before 11.
+fn check_step(gear: u32, lamp: u32, marks: &[u8]) -> Result<(), Refusal>
+    ensures { result ≡ tested (fault (step_rules gear lamp marks.now)) }
 {
     let bits = all_bits(marks);
     let row = is_row(gear, lamp);
     if !bits {
-        return refusals::BIT;
+        return Err(Refusal(Rule::Bit));
     }
     if !row {
-        return refusals::NO_SUCH_ROW;
+        return Err(Refusal(Rule::NoSuchRow));
     }
-    0
+    Ok(())
 }
 
 // Turns the bits that are marked.
@@ -54,8 +53,8 @@ fn turn(marks: &[u8], word: &mut [u8])
     requires { Bits marks.now × (length marks.now ≡ length word.old) }
     ensures { word.new ≡ turned (length word.old) (is_marked marks.now) word.old }
 {
-    for j in 0..word.len() {
-        word[j] ^= marks[j];
+    for (j, bit) in word.iter_mut().enumerate() {
+        *bit ^= marks[j];
     }
 }
 
@@ -65,9 +64,7 @@ fn verdict(reading: Reading, gear: u32, lamp: u32) -> Verdict
 {
     match reading {
         Reading::Read(row, _) => {
-            let read_gear = row.gear;
-            let read_lamp = row.lamp;
-            if (read_gear == gear) & (lamp_number(read_lamp) == lamp) {
+            if (row.gear == gear) & (u32::from(row.lamp) == lamp) {
                 Verdict::Right
             } else {
                 Verdict::Wrong
@@ -90,72 +87,38 @@ fn tally(verdict: Verdict, counts: &mut [u32])
     }
 }
 
-// No step was made.
-fn clear(counts: &mut [u32])
-    requires { length counts.old ≡ counts_long }
-    ensures { counts.new ≡ 0 ∷ 0 ∷ 0 ∷ 0 ∷ [] }
-{
-    for i in 0..COUNTS {
-        counts[i] = 0;
-    }
-}
-
 // The word of a row, which is made in `message` first, with the marked bits turned.
-fn send(
-    gear: u32,
-    lamp: u32,
-    rows: &[u64],
-    leads: &[u8],
-    marks: &[u8],
-    message: &mut [u8],
-    word: &mut [u8],
-)
-    requires form { Form (length word.old) rows.now leads.now × (free_count (length word.old) leads.now ≤ length message.old) }
+fn send(gear: u32, lamp: u32, basis: &Basis, marks: &[u8], message: &mut [u8], word: &mut [u8])
+    requires form { Form (length word.old) basis.now.rows basis.now.leads × (free_count (length word.old) basis.now.leads ≤ length message.old) }
     requires bits { Bits marks.now × (length marks.now ≡ length word.old) }
-    ensures { Sent (length word.old) rows.now leads.now (row_message (length message.old) gear lamp)
+    ensures { Sent (length word.old) basis.now.rows basis.now.leads (row_message (length message.old) gear lamp)
         marks.now word.new }
 {
-    based::write(gear, lamp, rows, leads, message, word);
+    based::write(gear, lamp, basis, message, word);
     turn(marks, word);
 }
 
 // Makes a step: the row is written, the marked bits are turned, and what arrives is read.
 fn make(
-    c: Parameters,
-    h: &[Elem],
-    inverses: &[Elem],
-    cols: &[Column],
-    rows: &[u64],
-    leads: &[u8],
+    decoder: &Decoder<'_, '_>,
+    basis: &Basis,
     k: usize,
     gear: u32,
     lamp: u32,
     marks: &[u8],
 ) -> Verdict
-    requires on_columns { OnColumns c h.now cols.now × Inverted c.m h.now inverses.now }
-    requires code_basis { CodeBasis c h.now cols.now rows.now leads.now k × (row_bits ≤ k) }
-    requires bits { Bits marks.now × (length marks.now ≡ length cols.now) }
-    ensures { result ≡ step_verdict c h.now cols.now gear lamp marks.now }
+    requires code_basis { OfCode CodeBasis decoder.now.code basis.now.rows basis.now.leads k × (row_bits ≤ k) }
+    requires bits { Bits marks.now × (length marks.now ≡ length decoder.now.code.cols.now) }
+    ensures { result ≡ of_code step_verdict decoder.now.code gear lamp marks.now }
 {
     let mut message: [u8; LONGEST] = [0; LONGEST];
     let mut word: [u8; LONGEST] = [0; LONGEST];
     let mut repaired: [u8; LONGEST] = [0; LONGEST];
-    let n = cols.len();
-    send(
-        gear,
-        lamp,
-        rows,
-        leads,
-        marks,
-        &mut message[..k],
-        &mut word[..n],
-    );
+    let n = decoder.code.cols.len();
+    send(gear, lamp, basis, marks, &mut message[..k], &mut word[..n]);
     let reading = based::read(
-        c,
-        h,
-        inverses,
-        cols,
-        leads,
+        decoder,
+        &basis.leads,
         &word[..n],
         &mut message[..k],
         &mut repaired[..n],
@@ -163,40 +126,32 @@ fn make(
     verdict(reading, gear, lamp)
 }
 
-// Makes one step after the other, and counts them, up to the first that cannot be made, whose number it answers.
+// Makes one step after the other, and counts them, up to the first that cannot be made.
 pub fn make_all(
-    c: Parameters,
-    h: &[Elem],
-    inverses: &[Elem],
-    cols: &[Column],
-    rows: &[u64],
-    leads: &[u8],
+    decoder: &Decoder<'_, '_>,
+    basis: &Basis,
     k: usize,
     gears: &[u8],
     lamps: &[u8],
     turned: &[u8],
     counts: &mut [u32],
-) -> u32
-    requires on_columns { OnColumns c h.now cols.now × Inverted c.m h.now inverses.now }
-    requires code_basis { CodeBasis c h.now cols.now rows.now leads.now k × (row_bits ≤ k) }
-    requires lent_steps { LentSteps (length cols.now) (steps_of gears.now lamps.now turned.now) counts.old }
-    ensures { StepsRidden c h.now cols.now (steps_of gears.now lamps.now turned.now) result
+) -> Result<(), Refusal>
+    requires code_basis { OfCode CodeBasis decoder.now.code basis.now.rows basis.now.leads k × (row_bits ≤ k) }
+    requires lent_steps { LentSteps (length decoder.now.code.cols.now) (steps_of gears.now lamps.now turned.now) counts.old }
+    ensures { OfCode StepsRidden decoder.now.code (steps_of gears.now lamps.now turned.now) result
         counts.new }
 {
-    clear(counts);
-    let n = cols.len();
-    for i in 0..gears.len() {
-        let gear = gears[i] as u32;
-        let lamp = lamps[i] as u32;
+    counts.fill(0);
+    let n = decoder.code.cols.len();
+    for (i, gear) in gears.iter().enumerate() {
+        let gear = u32::from(*gear);
+        let lamp = u32::from(lamps[i]);
         let start = i * n;
         let end = start + n;
         let marks = &turned[start..end];
-        let number = step_fault(gear, lamp, marks);
-        if number != 0 {
-            return number;
-        }
-        let verdict = make(c, h, inverses, cols, rows, leads, k, gear, lamp, marks);
+        check_step(gear, lamp, marks)?;
+        let verdict = make(decoder, basis, k, gear, lamp, marks);
         tally(verdict, counts);
     }
-    0
+    Ok(())
 }

@@ -1,2 +1,2 @@
-pub mod Doubling
+pub mod Entries
 pub mod Room

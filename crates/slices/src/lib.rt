@@ -1,7 +1,7 @@
 // What every call asks of the slices that it is lent.
 #![tactic(auto)]
 
-ghost use Rattle.std.specs.Prelude.{◌≡◌, length};
+ghost use Rattle.std.specs.Prelude.{◌≡◌};
 ghost use Rattle.field.specs.Gf.{Width};
 ghost use Rattle.slices.specs.Lengths.{is_power};
 ghost use Rattle.slices.specs.Elements.{all_elements};
@@ -19,15 +19,7 @@ pub const LONGEST: usize = 1 << LONGEST_LOG;
 pub fn is_power(s: usize) -> bool
     ensures { result ≡ is_power s }
 {
-    let long = LONGEST < s;
-    if long {
-        return false;
-    }
-    let mut p: usize = 1;
-    while p < s {
-        p *= 2;
-    }
-    p == s
+    (s <= LONGEST) & s.is_power_of_two()
 }
 
 // Whether every entry is an element of the field of width m.
@@ -35,41 +27,12 @@ pub fn all_elements(m: u32, a: &[Elem]) -> bool
     requires { Width m }
     ensures { result ≡ all_elements m a.now }
 {
-    for i in 0..a.len() {
-        if !is_element(m, a[i] as u32) {
-            return false;
-        }
-    }
-    true
+    a.iter().all(|x| is_element(m, u32::from(*x)))
 }
 
 // Whether every entry is 0 or 1.
 pub fn all_bits(a: &[u8]) -> bool
     ensures { result ≡ all_bits a.now }
 {
-    for i in 0..a.len() {
-        let other = 1 < a[i];
-        if other {
-            return false;
-        }
-    }
-    true
-}
-
-pub fn copy(from: &[Elem], to: &mut [Elem])
-    requires { length to.old ≡ length from.now }
-    ensures { to.new ≡ from.now }
-{
-    for i in 0..from.len() {
-        to[i] = from[i];
-    }
-}
-
-pub fn copy_bits(from: &[u8], to: &mut [u8])
-    requires { length to.old ≡ length from.now }
-    ensures { to.new ≡ from.now }
-{
-    for i in 0..from.len() {
-        to[i] = from[i];
-    }
+    a.iter().all(|x| *x < 2)
 }

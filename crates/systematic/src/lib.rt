@@ -10,6 +10,7 @@ ghost use Rattle.algebra.specs.Tabulate.{tabulate};
 ghost use Rattle.slices.specs.Bits.{Bits};
 ghost use Rattle.basis.specs.Table.{row_bit, free_at, free_count, placed_at, Form, Completed, Carried};
 
+use basis::elimination::Basis;
 use basis::packed;
 use basis::packed::ROW;
 
@@ -18,12 +19,8 @@ pub fn roles(leads: &[u8], out: &mut [u8])
     requires { length out.old ≤ length leads.now }
     ensures { out.new ≡ tabulate (length out.old) (λ p. cond (free_at leads.now p) 1 0) }
 {
-    for p in 0..out.len() {
-        if leads[p] == 1 {
-            out[p] = 0;
-        } else {
-            out[p] = 1;
-        }
+    for (p, role) in out.iter_mut().enumerate() {
+        *role = u8::from(leads[p] != 1);
     }
 }
 
@@ -33,11 +30,11 @@ fn place(message: &[u8], leads: &[u8], word: &mut [u8])
     ensures { word.new ≡ placed_at (length word.old) leads.now message.now }
 {
     let mut taken = 0;
-    for j in 0..word.len() {
+    for (j, entry) in word.iter_mut().enumerate() {
         if leads[j] == 1 {
-            word[j] = 0;
+            *entry = 0;
         } else {
-            word[j] = message[taken];
+            *entry = message[taken];
             taken += 1;
         }
     }
@@ -49,23 +46,24 @@ pub fn take_out(word: &[u8], leads: &[u8], message: &mut [u8])
     ensures { message.new ≡ chosen (length word.now) (free_at leads.now) (entry_of word.now) }
 {
     let mut taken = 0;
-    for p in 0..word.len() {
+    for (p, entry) in word.iter().enumerate() {
         if leads[p] != 1 {
-            message[taken] = word[p];
+            message[taken] = *entry;
             taken += 1;
         }
     }
 }
 
 // What row p says of the entries after place p.
-fn forced(rows: &[u64], leads: &[u8], word: &[u8], p: usize) -> u8
-    requires { Form (length word.now) rows.now leads.now × (p < length word.now) × Bits word.now }
-    ensures { (result ≡ rest gf2 (length word.now) (row_bit rows.now p) (entry_of word.now) p) × (result < 2) }
+fn forced(basis: &Basis, word: &[u8], p: usize) -> u8
+    requires { Form (length word.now) basis.now.rows basis.now.leads × (p < length word.now) × Bits word.now }
+    ensures { (result ≡ rest gf2 (length word.now) (row_bit basis.now.rows p) (entry_of word.now) p) × (result < 2) }
 {
     let start = p * ROW;
     let end = start + ROW;
-    let row = &rows[start..end];
+    let row = &basis.rows[start..end];
     let mut sum: u8 = 0;
+    // By index: j is a place of the packed row and of the word.
     for j in p + 1..word.len() {
         sum ^= packed::bit(row, j) as u8 * word[j];
     }
@@ -73,25 +71,23 @@ fn forced(rows: &[u64], leads: &[u8], word: &[u8], p: usize) -> u8
 }
 
 // Fills in the places with a row, from right to left.
-fn complete(rows: &[u64], leads: &[u8], word: &mut [u8])
-    requires { Form (length word.old) rows.now leads.now × Bits word.old }
-    ensures { Completed (length word.old) rows.now leads.now word.old word.new }
+fn complete(basis: &Basis, word: &mut [u8])
+    requires { Form (length word.old) basis.now.rows basis.now.leads × Bits word.old }
+    ensures { Completed (length word.old) basis.now.rows basis.now.leads word.old word.new }
 {
-    let mut p = word.len();
-    while 0 < p {
-        p -= 1;
-        if leads[p] == 1 {
-            word[p] = forced(rows, leads, word, p);
+    for p in (0..word.len()).rev() {
+        if basis.leads[p] == 1 {
+            word[p] = forced(basis, word, p);
         }
     }
 }
 
 // The word with the message at the free places, and the others as the rows say.
-pub fn carry(message: &[u8], rows: &[u64], leads: &[u8], word: &mut [u8])
-    requires form { Form (length word.old) rows.now leads.now }
-    requires leads_in_bounds { (free_count (length word.old) leads.now ≤ length message.now) × Bits message.now }
-    ensures { Carried (length word.old) rows.now leads.now message.now word.new }
+pub fn carry(message: &[u8], basis: &Basis, word: &mut [u8])
+    requires form { Form (length word.old) basis.now.rows basis.now.leads }
+    requires leads_in_bounds { (free_count (length word.old) basis.now.leads ≤ length message.now) × Bits message.now }
+    ensures { Carried (length word.old) basis.now.rows basis.now.leads message.now word.new }
 {
-    place(message, leads, word);
-    complete(rows, leads, word);
+    place(message, &basis.leads, word);
+    complete(basis, word);
 }

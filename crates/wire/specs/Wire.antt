@@ -1,15 +1,11 @@
 -- How an answer crosses into C, which has no enum: an int32_t that is the value, or minus the refusal's number.
 -- The prover's numbers are natural, so minus n is its pattern of 32 bits, 2^32 − n.
-use Rattle.std.specs.Prelude.{ℕ, ◌+◌, ◌-◌, ◌*◌, ◌%◌, ◌^◌}
-use Rattle.field.specs.declared.Answer.{Answer}
-use Rattle.field.specs.declared.Answer.TheVariants.{Element, Refused as NoElement}
-use Rattle.refusals.specs.declared.Counted.{Counted}
-use Rattle.refusals.specs.declared.Counted.TheVariants.{Count, Refused as NotCounted}
-use Rattle.refusals.specs.declared.Outcome.{Outcome}
-use Rattle.refusals.specs.declared.Outcome.TheVariants.{Done, Refused}
+use Rattle.std.specs.Prelude.{ℕ, ◌+◌, ◌-◌, ◌*◌, ◌%◌, ◌^◌, true, false, Ok, Err}
+use Rattle.field.specs.Found.{Answer}
+use Rattle.refusals.specs.Counted.{Counted}
+use Rattle.refusals.specs.Outcome.{Outcome}
 use Rattle.params.specs.declared.Parameters.{Parameters}
-use Rattle.codes.specs.declared.Sameness.{Sameness}
-use Rattle.codes.specs.declared.Sameness.TheVariants.{Same, Different, Refused as NotCompared}
+use Rattle.codes.specs.Sameness.{Sameness}
 use Rattle.repair.specs.declared.Recovery.{Recovery}
 use Rattle.repair.specs.declared.Recovery.TheVariants.{Repaired, Refused as NotRepaired}
 use Rattle.gears.specs.Rows.{lamp_number}
@@ -24,21 +20,21 @@ abbrev pub minus : ℕ → ℕ
 minus n = (2 ^ 32 - n) % 2 ^ 32
 
 abbrev pub element_code : Answer → ℕ
-element_code (Element a) = a
-element_code (NoElement n) = minus n
+element_code (Ok a) = a
+element_code (Err n) = minus n
 
 abbrev pub outcome_code : Outcome → ℕ
-outcome_code Done = 0
-outcome_code (Refused n) = minus n
+outcome_code (Ok done) = 0
+outcome_code (Err n) = minus n
 
 abbrev pub sameness_code : Sameness → ℕ
-sameness_code Same = 1
-sameness_code Different = 0
-sameness_code (NotCompared n) = minus n
+sameness_code (Ok true) = 1
+sameness_code (Ok false) = 0
+sameness_code (Err n) = minus n
 
 abbrev pub counted_code : Counted → ℕ
-counted_code (Count k) = k
-counted_code (NotCounted n) = minus n
+counted_code (Ok k) = k
+counted_code (Err n) = minus n
 
 abbrev pub recovery_code : Recovery → ℕ
 recovery_code (Repaired count) = count

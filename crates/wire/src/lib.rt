@@ -4,48 +4,44 @@
 ghost use Rattle.std.specs.Prelude.{◌≡◌};
 ghost use Rattle.wire.specs.Wire.{minus, element_code, outcome_code, sameness_code, counted_code, recovery_code, reading_code};
 
-use codes::Sameness;
-use field::Answer;
-use gears::lamp_number;
-use refusals::{Counted, Outcome};
+use field::Elem;
+use refusals::Refusal;
 use repair::Recovery;
 use rows::Reading;
-use std::num::wrapping_add_u32;
 
-pub fn element_code(answer: Answer) -> u32
+pub fn element_code(answer: Result<Elem, Refusal>) -> u32
     ensures { result ≡ element_code answer }
 {
     match answer {
-        Answer::Element(a) => a as u32,
-        Answer::Refused(number) => minus(number),
+        Ok(a) => a as u32,
+        Err(refusal) => minus(refusal),
     }
 }
 
-pub fn outcome_code(outcome: Outcome) -> u32
+pub fn outcome_code(outcome: Result<(), Refusal>) -> u32
     ensures { result ≡ outcome_code outcome }
 {
     match outcome {
-        Outcome::Done => 0,
-        Outcome::Refused(number) => minus(number),
+        Ok(()) => 0,
+        Err(refusal) => minus(refusal),
     }
 }
 
-pub fn sameness_code(sameness: Sameness) -> u32
+pub fn sameness_code(sameness: Result<bool, Refusal>) -> u32
     ensures { result ≡ sameness_code sameness }
 {
     match sameness {
-        Sameness::Different => 0,
-        Sameness::Same => 1,
-        Sameness::Refused(number) => minus(number),
+        Ok(same) => same as u32,
+        Err(refusal) => minus(refusal),
     }
 }
 
-pub fn counted_code(counted: Counted) -> u32
+pub fn counted_code(counted: Result<u32, Refusal>) -> u32
     ensures { result ≡ counted_code counted }
 {
     match counted {
-        Counted::Count(count) => count,
-        Counted::Refused(number) => minus(number),
+        Ok(count) => count,
+        Err(refusal) => minus(refusal),
     }
 }
 
@@ -54,7 +50,7 @@ pub fn recovery_code(recovery: Recovery) -> u32
 {
     match recovery {
         Recovery::Repaired(count) => count,
-        Recovery::Refused(number) => minus(number),
+        Recovery::Refused(refusal) => minus(refusal),
     }
 }
 
@@ -64,18 +60,17 @@ pub fn reading_code(reading: Reading) -> u32
 {
     match reading {
         Reading::Read(row, count) => {
-            let gear = row.gear;
-            let lamp = row.lamp;
-            let shown = wrapping_add_u32(gear, 8 * lamp_number(lamp));
-            wrapping_add_u32(shown, count << 5)
+            let lamp = u32::from(row.lamp);
+            let shown = row.gear.wrapping_add(8 * lamp);
+            shown.wrapping_add(count << 5)
         }
-        Reading::Refused(number) => minus(number),
+        Reading::Refused(refusal) => minus(refusal),
     }
 }
 
-// The pattern of −number in 32 bits.
-fn minus(number: u32) -> u32
-    ensures { result ≡ minus number }
+// The pattern of minus the refusal's number in 32 bits.
+fn minus(refusal: Refusal) -> u32
+    ensures { result ≡ minus refusal }
 {
-    wrapping_add_u32(u32::MAX - number, 1)
+    u32::from(refusal).wrapping_neg()
 }

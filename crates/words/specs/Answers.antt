@@ -1,10 +1,10 @@
 -- What the calls on words answer, and what they leave in the lent buffers, for every input, at each setting: for the whole code, or for a selection
 -- of its blocks, each without its hidden places.
 use Rattle.std.specs.Prelude.{true, ◌&&◌, List, [], ◌∷◌, ◌++◌, ℕ, eqb, length}
-use Rattle.refusals.specs.declared.Counted.{Counted}
-use Rattle.refusals.specs.declared.Counted.TheVariants.{Count, Refused as NotCounted}
-use Rattle.refusals.specs.declared.Outcome.{Outcome}
-use Rattle.refusals.specs.declared.Outcome.TheVariants.{Done, Refused}
+use Rattle.refusals.specs.Counted.{Counted}
+use Rattle.refusals.specs.Counted.{Count, Refused as NotCounted}
+use Rattle.refusals.specs.Outcome.{Outcome}
+use Rattle.refusals.specs.Outcome.{Done, Refused}
 use Rattle.refusals.specs.Rules.{Rule, ◌unless◌, fault, unless_refused}
 use Rattle.slices.specs.Bits.{all_bits}
 use Rattle.params.specs.declared.Parameters.{Parameters}

@@ -7,7 +7,8 @@ use lib.ListN.{length}
 use borrow.Author.Tests.{eq-eqb, ne_eqb}
 use Rattle.refusals.specs.RuleLaws.{fault_here, fault_past, fault_empty, fault_rest, refuse, accept}
 use Rattle.refusals.specs.Ending.{first_refuses}
-use Rattle.refusals.specs.declared.Outcome.TheVariants.{Refused}
+use Rattle.refusals.specs.Outcome.{Done, Refused}
+use Rattle.refusals.specs.Testing.{tested_none, tested_due, refuses, first_passed_on}
 use Rattle.field.specs.Gf.{gf}
 use Rattle.dyadic.specs.Block.{quotient, block_inverse}
 use Rattle.dyadic.specs.Invertible.{is_invertible}
@@ -15,15 +16,16 @@ use Rattle.blocks.specs.Answers.{size_rules, block_rules, block_fault, inverse_r
 use Rattle.blocks.proofs.Checked.{block_checked, total_checked}
 use Rattle.blocks.proofs.inverse.Goals as goal
 
-pub returns-then-number-ne0 : goal.returns-then-number-ne0
+pub returns-in_err-check_block : goal.returns-in_err-check_block
 unfolding inverse_answer inverse_after inverse_fault inverse_rules block_fault
-returns-then-number-ne0 c =
+returns-in_err-check_block c =
     let g = c.args in
     let rules = block_rules g.m g.a.now (length g.out.now) in
-    let number = c.block_fault-number.ensures in
+    let is = c.in_err-check_block.ensures in
+    let (ne, due) = tested_due is in
     record {
-      value = first_refuses rules _ Refused _ number c.if-number-ne0.true;
-      out_after = first_refuses rules _ (λ k. g.out.now) _ number c.if-number-ne0.true;
+      value = first_passed_on rules _ _ _ is c.from_residual.ensures.1;
+      out_after = first_refuses rules _ (λ k. g.out.now) _ due ne;
     }
 
 pub returns-then-zero : goal.returns-then-zero
@@ -31,24 +33,24 @@ unfolding inverse_answer inverse_after inverse_fault inverse_rules block_fault b
 returns-then-zero c =
     let g = c.args in
     let rules = block_rules g.m g.a.now (length g.out.now) in
-    let none = sym c.block_fault-number.ensures ∙ c.if-number-ne0.false in
+    let none = tested_none c.in_ok-check_block.ensures in
     let zero = sym (c.total-sum.ensures g.m) ∙ c.if-zero.true in
     let number = sym (fault_rest rules _ tt none ∙ fault_here 9 _ (ap not (eq-eqb _ 0 zero))) in
     record {
-      value = refuse Refused _ number (λ z. omega arith);
+      value = refuses number;
       out_after = refuse (λ k. g.out.now) _ number (λ z. omega arith);
     }
 
 pub product-requires : goal.product-requires
 product-requires c =
     let m = c.args.m in
-    let h = block_checked _ _ _ (sym c.block_fault-number.ensures ∙ c.if-number-ne0.false) in
+    let h = block_checked _ _ _ c.in_ok-check_block.ensures in
     let small = subst (λ (x : ℕ). x < 2 ^ m) (sym (c.total-sum.ensures m)) (total_checked h) in
     (h.width, small, small)
 
 pub divide-requires : goal.divide-requires
 divide-requires c =
-    let h = block_checked _ _ _ (sym c.block_fault-number.ensures ∙ c.if-number-ne0.false) in
+    let h = block_checked _ _ _ c.in_ok-check_block.ensures in
     (h.width, h.elements, c.product.ensures.1, h.room)
 
 pub returns : goal.returns
@@ -56,11 +58,11 @@ unfolding inverse_answer inverse_after inverse_fault inverse_rules block_fault b
 returns c =
     let g = c.args in
     let rules = block_rules g.m g.a.now (length g.out.now) in
-    let none = sym c.block_fault-number.ensures ∙ c.if-number-ne0.false in
+    let none = tested_none c.in_ok-check_block.ensures in
     let sum = c.total-sum.ensures g.m in
     let square = c.product.ensures.0 ∙ ap (λ (x : ℕ). (gf g.m).mul x x) sum in
     let number = sym (fault_rest rules _ tt none ∙ fault_past 9 _ (ap not (ne_eqb _ 0 (λ z. c.if-zero.false (sum ∙ z)))) fault_empty) in
     record {
-      value = accept Refused _ number refl;
+      value = accept Refused Done number refl;
       out_after = c.divide.ensures ∙ ap (quotient (gf g.m) g.a.now) square ∙ accept (λ k. g.out.now) _ number refl;
     }

@@ -1,24 +1,16 @@
 -- `same` meets its contract: the lower number of the two codes, or what the comparison gives.
-use mathlib.Core.Path.{sym, ap, ap₂, ◌∙◌}
-use Rattle.refusals.specs.RuleLaws.{refuse, accept}
-use Rattle.codes.specs.declared.Sameness.TheVariants.{Refused}
-use Rattle.codes.specs.Answers.{lowest, compared, same_fault, same_answer}
+use mathlib.Core.Path.{◌∙◌}
+use Rattle.refusals.specs.Testing.{passed_on, went_on}
+use Rattle.codes.specs.Answers.{same_fault, same_answer}
+use Rattle.codes.proofs.SameLaws.{compared_is}
 use Rattle.codes.proofs.same.Goals as goal
 
-pub returns-then-number-ne0 : goal.returns-then-number-ne0
+pub returns-in_err-lower : goal.returns-in_err-lower
 unfolding same_answer same_fault
-returns-then-number-ne0 c =
-    let number = c.lower-number.ensures ∙ ap₂ lowest c.card_fault.ensures c.card_fault-2.ensures in
-    refuse Refused _ number c.if-number-ne0.true
-
-pub returns-then-agree : goal.returns-then-agree
-unfolding same_answer same_fault compared
-returns-then-agree c =
-    let number = c.lower-number.ensures ∙ ap₂ lowest c.card_fault.ensures c.card_fault-2.ensures in
-    ap compared (sym c.if-agree.true ∙ c.agree.ensures) ∙ accept Refused _ number c.if-number-ne0.false
+returns-in_err-lower c = passed_on _ _ _ (c.in_err-lower.ensures _ _ c.check_card.ensures c.check_card-2.ensures) c.from_residual.ensures.1
 
 pub returns : goal.returns
-unfolding same_answer same_fault compared
+unfolding same_answer same_fault
 returns c =
-    let number = c.lower-number.ensures ∙ ap₂ lowest c.card_fault.ensures c.card_fault-2.ensures in
-    ap compared (sym c.if-agree.false ∙ c.agree.ensures) ∙ accept Refused _ number c.if-number-ne0.false
+    compared_is c.agree.ensures
+    ∙ went_on _ _ (c.in_ok-lower.ensures _ _ c.check_card.ensures c.check_card-2.ensures)

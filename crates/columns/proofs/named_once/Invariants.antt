@@ -2,5 +2,5 @@
 use Rattle.columns.proofs.Naming.{Naming}
 use Rattle.columns.proofs.named_once.Given as goal
 
-abbrev pub invariant-loop-b : goal.invariant-loop-b
-invariant-loop-b l = Naming l.blocks l.named l.b
+abbrev pub invariant-loop-number : goal.invariant-loop-number
+invariant-loop-number l = Naming l.blocks l.named l.number-index

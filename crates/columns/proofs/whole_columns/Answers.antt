@@ -1,31 +1,36 @@
 -- `whole_columns` meets its contract: the code's number, or the columns numbered.
+use mathlib.Core.Path.{refl, sym, ◌∙◌, subst}
 use native.Mathlib.Omega.{arith}
 use Rattle.refusals.specs.Answered.{counted_apart}
+use Rattle.refusals.specs.Testing.{tested_none, tested_due, handed_on}
+use Rattle.columns.specs.Choice.{Choice.whole_code}
+use Rattle.columns.specs.Listed.{Listed}
 use Rattle.columns.proofs.Beginning.{whole_refused, whole_listed, whole_short}
 use Rattle.columns.proofs.whole_columns.Goals as goal
 
-pub returns-then-number-ne0 : goal.returns-then-number-ne0
-returns-then-number-ne0 c =
+pub returns-in_err-check_code : goal.returns-in_err-check_code
+returns-in_err-check_code c =
     let a = c.args in
-    let number = c.code_fault_inverses-number.ensures.value in
+    let (ne, due) = tested_due c.in_err-check_code.ensures.value in
+    let handed = handed_on _ c.from_residual.ensures.1 in
     record {
-      listed = whole_refused a.c a.h.now a.lent.others a.lent.places _ number c.if-number-ne0.true;
-      by_index = λ k e. absurd (counted_apart k _ e);
+      listed = subst (Listed a.c a.h.now whole_code a.lent.others a.lent.places _) (sym handed)
+          (whole_refused a.c a.h.now a.lent.others a.lent.places _ due ne);
+      by_index = λ k e. absurd (counted_apart k _ (sym handed ∙ e));
     }
 
 pub number_columns-requires : goal.number_columns-requires
 number_columns-requires c =
     let a = c.args in
-    let number = c.code_fault_inverses-number.ensures.value in
-    let short = whole_short a.c a.h.now a.lent.others a.lent.places a.columns.now number c.if-number-ne0.false in
+    let none = tested_none c.in_ok-check_code.ensures.value in
+    let short = whole_short a.c a.h.now a.lent.others a.lent.places a.columns.now (sym none) (omega arith) in
     omega arith
 
 pub returns : goal.returns
 returns c =
     let a = c.args in
-    let record { value = number; inverted = inverted } = c.code_fault_inverses-number.ensures in
-    let none = c.if-number-ne0.false in
+    let record { value = value; inverted = inverted } = c.in_ok-check_code.ensures in
     record {
-      listed = whole_listed a.c a.h.now a.lent.others a.lent.places _ number none c.number_columns.ensures;
-      by_index = λ k e. inverted none;
+      listed = whole_listed a.c a.h.now a.lent.others a.lent.places _ (sym (tested_none value)) (omega arith) c.number_columns.ensures;
+      by_index = λ k e. inverted refl;
     }

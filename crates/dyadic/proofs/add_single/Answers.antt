@@ -5,11 +5,6 @@ use Rattle.algebra.specs.Xor.{◌⊕◌}
 use Rattle.dyadic.proofs.Adding.{single}
 use Rattle.dyadic.proofs.add_single.Goals as goal
 
-pub product-requires : goal.product-requires
-product-requires c =
-    let pre = c.requires in
-    (pre.0.width, pre.0.elements_a 0 (omega arith), pre.0.elements_b 0 (omega arith))
-
 pub returns : goal.returns
 unfolding ◌⊕◌
 returns c =

@@ -1,21 +1,16 @@
--- `clear` meets its contract: the loop fills the buffer with zeros.
-use mathlib.Core.Path.{refl}
-use Prim.Native.Nat.{ℕ}
-use lib.ListN.{length}
-use Rattle.algebra.specs.Filling.{filling_start, filling_length, filling_index, filling_turn, filling_end}
+-- `clear` meets its contract: the buffer is filled with zeros.
+use Rattle.std.proofs.Common.{◌≡◌, ℕ, length, get_or, sym, ap, ◌∙◌}
+use Rattle.std.proofs.Math.ListN.{replicate}
+use Rattle.std.proofs.lemmas.List.{length-replicate, get_or-replicate}
+use Rattle.algebra.specs.Tabulate.{tabulate}
+use Rattle.algebra.specs.TabulateLaws.{tabulate_cong, tabulate-get_or}
 use Rattle.dyadic.proofs.clear.Goals as goal
 
-pub loop-i-init : goal.loop-i-init
-loop-i-init c = filling_start (λ (j : ℕ). 0) (length c.args.out.now) c.args.out.now refl
-
-pub bounds-out-i : goal.bounds-out-i
-bounds-out-i c = filling_index c.loop-i.invariant c.loop-i-test.true
-
-pub loop-i-preserved : goal.loop-i-preserved
-loop-i-preserved c = filling_turn c.loop-i.invariant c.loop-i-test.true refl
-
-pub shape_of-out : goal.shape_of-out
-shape_of-out c = filling_length c.loop-i.invariant
+zeros : (n : ℕ) → replicate {A = ℕ} n 0 ≡ tabulate n (λ (i : ℕ). 0)
+zeros n =
+    sym (tabulate-get_or (replicate n 0) 0)
+    ∙ ap (λ (k : ℕ). tabulate k (λ i. get_or (replicate n 0) i 0)) (length-replicate n 0)
+    ∙ tabulate_cong n (λ i l. get_or-replicate n i 0 0 l)
 
 pub returns : goal.returns
-returns c = filling_end c.loop-i.invariant c.loop-i-test.false
+returns c = c.fill.ensures.after (λ y is. is) ∙ zeros (length c.args.out.now)

@@ -10,4 +10,4 @@ abbrev pub quotients : ℕ → List ℕ → ℕ → ℕ → ℕ
 quotients m a c j = (gf m).mul (get_or a j 0) ((gf m).inv c)
 
 abbrev pub invariant-loop-i : goal.invariant-loop-i
-invariant-loop-i l = Filling (quotients l.m l.a l.c) (length l.a) l.initial.out l.out l.i
+invariant-loop-i l = Filling (quotients l.m l.a l.c) (length l.initial.out) l.initial.out l.out l.i

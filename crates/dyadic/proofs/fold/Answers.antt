@@ -1,36 +1,12 @@
--- `fold` meets its contract: the loop adds entry by entry, and what it adds is not yet written to.
-use native.Mathlib.Omega.{arith}
-use Rattle.algebra.specs.Xor.{◌⊕◌}
-use Rattle.dyadic.proofs.Folding.{folding_start, folding_length, folding_turn, folding_end}
+-- `fold` meets its contract: the second half is added to the first.
+use Rattle.std.proofs.Common.{ap₂, ◌∙◌, List, ℕ, ◌++◌}
+use Rattle.field.specs.Gf.{gf}
+use Rattle.dyadic.specs.Block.{block_sum}
+use Rattle.dyadic.specs.Folded.{folded}
 use Rattle.dyadic.proofs.fold.Goals as goal
 
-pub loop-i-init : goal.loop-i-init
-loop-i-init c = folding_start _ _ c.requires
-
-pub bounds-x-h : goal.bounds-x-h
-bounds-x-h c =
-    let l = c.loop-i in
-    let long = folding_length l.invariant in
-    let whole = l.invariant.long in omega (arith, c.loop-i-test.true)
-
-pub bounds-x-i : goal.bounds-x-i
-bounds-x-i c =
-    let l = c.loop-i in
-    let long = folding_length l.invariant in
-    let whole = l.invariant.long in omega (arith, c.loop-i-test.true)
-
-pub bounds-x-i-in-loop-i : goal.bounds-x-i-in-loop-i
-bounds-x-i-in-loop-i c =
-    let l = c.loop-i in
-    let long = folding_length l.invariant in
-    let whole = l.invariant.long in omega (arith, c.loop-i-test.true)
-
-pub loop-i-preserved : goal.loop-i-preserved
-unfolding ◌⊕◌
-loop-i-preserved c = folding_turn c.loop-i.invariant c.loop-i-test.true
-
-pub shape_of-x : goal.shape_of-x
-shape_of-x c = folding_length c.loop-i.invariant
-
 pub returns : goal.returns
-returns c = λ m. folding_end c.loop-i.invariant m c.loop-i-test.false
+unfolding folded
+returns c = λ m.
+    let parts = c.split_at_mut-low.ensures in
+    ap₂ (λ (low high : List ℕ). low ++ high) (c.add.ensures m ∙ ap₂ (block_sum (gf m)) parts.front parts.back) parts.back

@@ -1,34 +1,18 @@
--- `total` meets its contract. The loop's invariant: the sum of the entries passed.
-use mathlib.Core.Path.{◌≡◌, refl, sym, ap, ◌∙◌}
-use Prim.Native.Nat.{ℕ}
-use native.Mathlib.Numerals.{add-one}
-use native.Mathlib.Omega.{arith}
-use lib.ListN.{length, get_or}
+-- `total` meets its contract: the iterator sums the elements passed.
+use Rattle.std.proofs.Common.{◌≡◌, refl, subst, ◌∙◌, ℕ, List, length, rules}
+use Rattle.std.proofs.lemmas.Fn.{fold_over, fronts, slice_gives}
 use Rattle.algebra.specs.Lists.{entry}
 use Rattle.algebra.specs.Sum.{sum}
 use Rattle.algebra.specs.Xor.{◌⊕◌}
 use Rattle.field.specs.Gf.{gf}
 use Rattle.dyadic.specs.Block.{total}
+use Rattle.dyadic.proofs.Sums.{sum_more}
 use Rattle.dyadic.proofs.total.Goals as goal
 
-pub loop-i-init : goal.loop-i-init
-unfolding sum
-loop-i-init c = (refl, omega arith, λ m. refl)
-
-pub loop-i-preserved : goal.loop-i-preserved
-unfolding sum ◌⊕◌
-loop-i-preserved c =
-    let l = c.loop-i in
-    let a = c.args.a.now in (
-      l.invariant.0,
-      omega arith,
-      λ m. ap (λ (x : ℕ). x ⊕ get_or a l.i 0) (l.invariant.2 m) ∙ ap (λ (k : ℕ). sum (gf m) k (entry (gf m) a)) (sym (add-one l.i)),
-    )
-
 pub returns : goal.returns
-unfolding total
-returns c =
-    let l = c.loop-i in
-    let a = c.args.a.now in
-    let whole : l.i ≡ length a = omega arith in
-    λ m. l.invariant.2 m ∙ ap (λ (k : ℕ). sum (gf m) k (entry (gf m) a)) whole
+unfolding total sum ◌⊕◌
+returns c = λ m.
+    subst (λ (xs : List ℕ). c.fold.result ≡ total (gf m) xs) c.iter.ensures.rest
+    (fold_over fronts (λ y. y.now) _ (λ ys s. s ≡ sum (gf m) (length ys) (entry (gf m) ys)) _
+    (λ ys s x b f' so k. (let made : b ≡ s ⊕ x.now = search rules in made ∙ sum_more m ys x.now s so, search rules))
+    c.iter.result _ 0 _ (slice_gives c.iter.result) refl c.fold.ensures.ran)

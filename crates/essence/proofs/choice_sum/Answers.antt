@@ -1,6 +1,4 @@
 -- `choice_sum` meets its contract. The loop's invariant: `sum` is the sum of the values taken at the places passed.
-use mathlib.Core.Path.{refl}
-use native.Mathlib.Omega.{arith}
 use Rattle.algebra.specs.Bits.{bit_at}
 use Rattle.algebra.specs.BitLaws.{bit_times_lt, bit_at_lt}
 use Rattle.algebra.specs.Xor.{◌⊕◌}
@@ -9,7 +7,7 @@ use Rattle.essence.proofs.Choosing.{choosing_start, choosing_turn, choosing_end}
 use Rattle.essence.proofs.choice_sum.Goals as goal
 
 pub loop-s-init : goal.loop-s-init
-loop-s-init c = (refl, choosing_start c.args.values.now c.args.choice)
+loop-s-init c = choosing_start c.args.values.now c.args.choice
 
 pub overflow_mul-sum : goal.overflow_mul-sum
 unfolding bit_at
@@ -21,7 +19,7 @@ overflow_mul-sum c =
 
 pub loop-s-preserved : goal.loop-s-preserved
 unfolding ◌⊕◌ bit_at
-loop-s-preserved c = (refl, choosing_turn c.loop-s.invariant.1 c.loop-s-test.true)
+loop-s-preserved c = choosing_turn c.loop-s.invariant c.loop-s-test.true
 
 pub returns : goal.returns
-returns c = choosing_end c.loop-s.invariant.1 (omega arith)
+returns c = choosing_end c.loop-s.invariant c.loop-s-test.false

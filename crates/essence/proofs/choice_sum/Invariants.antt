@@ -1,8 +1,6 @@
 -- `choice_sum` meets its contract. The loop's invariant: `sum` is the sum of the values taken at the places passed.
-use mathlib.Core.Path.{◌≡◌}
-use lib.ListN.{length}
 use Rattle.essence.proofs.Choosing.{Choosing}
 use Rattle.essence.proofs.choice_sum.Given as goal
 
 abbrev pub invariant-loop-s : goal.invariant-loop-s
-invariant-loop-s l = (l.s-end ≡ length l.values) × Choosing l.values l.choice l.sum l.s
+invariant-loop-s l = Choosing l.values l.choice l.sum l.s

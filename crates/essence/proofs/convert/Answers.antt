@@ -1,8 +1,11 @@
 -- `convert` meets its contract: the tests of the table tell whether the essence is independent.
 use mathlib.Core.Path.{refl, sym, ap₂, ◌∙◌}
 use mathlib.Core.Bool.{Bool, ◌&&◌}
+use mathlib.Core.List.{[]}
 use native.Mathlib.Omega.{arith}
 use Rattle.algebra.specs.Flags.{both_true}
+use Rattle.refusals.specs.RuleLaws.{fault_here, fault_none}
+use Rattle.refusals.specs.Ending.{ended_refused, ended_done}
 use Rattle.essence.proofs.Shaped.{entries_short}
 use Rattle.essence.proofs.Converting.{table_first, table_tells, table_entries, table_inverted}
 use Rattle.essence.proofs.convert.Goals as goal
@@ -19,10 +22,8 @@ all_different-requires c =
 pub returns-then-not-no_zero-all_different : goal.returns-then-not-no_zero-all_different
 returns-then-not-no_zero-all_different c =
     let tested = ap₂ (λ (x y : Bool). x && y) c.no_zero.ensures c.all_different.ensures in
-    record {
-      value = sym (c.if-not-no_zero-all_different.true) ∙ tested ∙ table_tells c.requires.0 (c.store_inverses.ensures c.args.m);
-      out_after = refl;
-    }
+    let dependent = sym (table_tells c.requires.0 (c.store_inverses.ensures c.args.m)) ∙ sym tested ∙ c.if-not-no_zero-all_different.true in
+    ended_refused _ _ _ (sym (fault_here 17 [] dependent)) (λ z. omega arith)
 
 pub invert-requires : goal.invert-requires
 invert-requires c =
@@ -35,7 +36,6 @@ pub returns : goal.returns
 returns c =
     let stored = c.store_inverses.ensures c.args.m in
     let tested = ap₂ (λ (x y : Bool). x && y) c.no_zero.ensures c.all_different.ensures in
-    record {
-      value = sym (c.if-not-no_zero-all_different.false) ∙ tested ∙ table_tells c.requires.0 stored;
-      out_after = table_inverted c.requires.0 stored (c.invert.auto.inverses ∙ c.requires.1) c.invert.ensures;
-    }
+    let independent = sym (table_tells c.requires.0 stored) ∙ sym tested ∙ c.if-not-no_zero-all_different.false in
+    ended_done _ _ _ (sym (fault_none _ (independent, tt))) refl
+    (table_inverted c.requires.0 stored (c.invert.auto.inverses ∙ c.requires.1) c.invert.ensures)

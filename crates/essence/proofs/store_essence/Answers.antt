@@ -1,13 +1,15 @@
 -- `store_essence` meets its contract. The loop's invariant: the values before place s are stored.
-use mathlib.Core.Path.{refl, ap, ap₂}
-use Prim.Native.Nat.{ℕ, ◌-◌}
+use mathlib.Core.Path.{ap}
+use Prim.Native.Nat.{ℕ, ◌-◌, ◌<◌}
 use native.Mathlib.Omega.{arith}
-use lib.ListN.{length}
+use lib.ListN.{length, length-append, length-drop}
 use lib.Pow.{pow_pos}
+use lib.Seq.{length-take-le}
+use Rattle.algebra.specs.Filling.{filling_start, filling_turn, filling_end}
 use Rattle.algebra.specs.Lists.{entry_of}
 use Rattle.algebra.specs.Xor.{◌⊕◌}
 use Rattle.essence.proofs.ShapeLaws.{value_count_is}
-use Rattle.essence.proofs.Storing.{reached, storing_start, storing_length, storing_last, storing_turn, storing_end}
+use Rattle.essence.proofs.Storing.{reached, stored}
 use Rattle.essence.proofs.store_essence.Goals as goal
 
 pub bounds-inverses-0 : goal.bounds-inverses-0
@@ -19,52 +21,33 @@ pub overflow_sub-e : goal.overflow_sub-e
 overflow_sub-e c = omega (arith, (value_count_is _ c.requires.0).0)
 
 pub loop-s-init : goal.loop-s-init
-loop-s-init c =
-    let low = (value_count_is _ c.requires.0).0 in
-    (refl, omega arith, storing_start (entry_of c.args.inverses.now) _ c.args.out.now (omega arith))
+loop-s-init c = filling_start _ _ _ (length-take-le _ c.args.out.now (omega arith))
 
 pub power-requires : goal.power-requires
-power-requires c =
-    let pre = c.requires in
-    omega (arith, (value_count_is _ pre.0).1, c.loop-s-test.true)
+power-requires c = omega (arith, (value_count_is _ c.requires.0).1, c.loop-s.invariant.long)
 
 pub offset_bounds-inverses-power : goal.offset_bounds-inverses-power
 offset_bounds-inverses-power c =
-    let pre = c.requires in
-    omega (arith, reached c.power.ensures c.loop-s-test.true pre.1)
+    let less : c.loop-s.s < length c.args.out.now - 1 = omega (arith, c.loop-s.invariant.long) in
+    omega (arith, reached c.power.ensures less c.requires.1)
 
 pub bounds-inverses-power : goal.bounds-inverses-power
 bounds-inverses-power c =
-    let pre = c.requires in
-    reached c.power.ensures c.loop-s-test.true pre.1
-
-pub bounds-out-s : goal.bounds-out-s
-bounds-out-s c =
-    let l = c.loop-s in
-    omega (arith, storing_length _ _ _ l.invariant.1 l.invariant.2, c.loop-s-test.true)
+    let less : c.loop-s.s < length c.args.out.now - 1 = omega (arith, c.loop-s.invariant.long) in
+    reached c.power.ensures less c.requires.1
 
 pub loop-s-preserved : goal.loop-s-preserved
 unfolding ◌⊕◌
 loop-s-preserved c =
-    let l = c.loop-s in
-    let f = entry_of c.args.inverses.now in (
-      l.invariant.0,
-      l.invariant.1,
-      storing_turn f _ _ l.invariant.1 l.invariant.2 c.loop-s-test.true
-          (ap₂ (λ (x y : ℕ). x ⊕ y) (ap f c.power.ensures) l.invariant.0),
-    )
+    let less : c.loop-s.s < length c.args.out.now - 1 = omega (arith, c.loop-s.invariant.long) in
+    let f = entry_of c.args.inverses.now in
+    filling_turn c.loop-s.invariant less (ap (λ (k : ℕ). f k ⊕ f 0) c.power.ensures)
 
 pub bounds-out-e : goal.bounds-out-e
 bounds-out-e c =
-    let l = c.loop-s in
-    omega (arith, storing_length _ _ _ l.invariant.1 l.invariant.2)
-
-pub shape_of-out : goal.shape_of-out
-shape_of-out c =
-    let l = c.loop-s in
-    storing_last _ _ _ l.invariant.1 l.invariant.2 (entry_of c.args.inverses.now 0)
+    omega (arith, length-append {A = ℕ}, length-drop {A = ℕ}, c.loop-s.auto.value-items, c.loop-s.invariant.long, (value_count_is _ c.requires.0).0)
 
 pub returns : goal.returns
 returns c =
-    let l = c.loop-s in
-    storing_end _ _ _ l.invariant.1 l.invariant.2 (omega arith) l.invariant.0
+    let made = filling_end c.loop-s.invariant (omega (arith, c.loop-s.invariant.long)) in
+    stored (entry_of c.args.inverses.now) _ c.args.out.now (omega (arith, (value_count_is _ c.requires.0).0)) made

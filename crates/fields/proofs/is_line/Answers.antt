@@ -1,35 +1,32 @@
--- `is_line` meets its contract: it scans the fields, and then looks for the end.
-use mathlib.Core.Path.{ap}
+-- `is_line` meets its contract: it tests the fields, and then looks for the end.
+use mathlib.Core.Path.{sym, ap}
 use mathlib.Core.Bool.{Bool, ◌&&◌}
-use Prim.Native.Nat.{◌+◌, ◌*◌}
+use Prim.Native.Nat.{ℕ, ◌+◌, ◌*◌}
 use native.Mathlib.Omega.{arith}
+use borrow.Author.Rules.{rules}
+use borrow.Author.Tests.{tests}
 use lib.Dec.{eqb}
-use Rattle.algebra.specs.Flags.{found_false, found_true}
-use Rattle.algebra.specs.Scanning.{scanning_start, scanning_turn, scanning_fails, scanning_end}
+use Rattle.std.proofs.Common.{◌∙◌}
+use Rattle.std.proofs.lemmas.Iterator.{YieldsList-from_range}
+use Rattle.std.proofs.lemmas.Iterator.Search.{all_from_yields_List}
 use Rattle.algebra.specs.Lists.{entry_of}
 use Rattle.fields.specs.Fields.{field_width, line_end, is_number, is_line}
+use Rattle.slices.proofs.Entries.{tests_below}
 use Rattle.fields.proofs.is_line.Goals as goal
 
-pub loop-i-init : goal.loop-i-init
-loop-i-init c =
-    let a = c.args in scanning_start a.count (λ k. is_number a.text.now (a.at + k * field_width))
-
-pub returns-then-not-is_number : goal.returns-then-not-is_number
+pub returns-then-all : goal.returns-then-all
 unfolding is_line
-returns-then-not-is_number c =
+returns-then-all c =
     let a = c.args in
-    let l = c.loop-i in
-    ap (λ (b : Bool). b && eqb (entry_of a.text.now (a.at + a.count * field_width)) line_end)
-    (scanning_fails l.invariant (omega arith) (found_false c.is_number.ensures c.if-not-is_number.true))
+    let fields = λ (k : ℕ). is_number a.text.now (a.at + k * field_width) in
+    let e = all_from_yields_List fields _ _ c.all.result c.all.ensures.ran (YieldsList-from_range 0 a.count a.count (search rules) (omega arith)) (λ x b q k. search (rules, tests)) in
+    ap (λ (b : Bool). b && eqb (entry_of a.text.now (a.at + a.count * field_width)) line_end) (sym c.if-all.true ∙ e ∙ tests_below a.count fields)
 
-pub loop-i-preserved : goal.loop-i-preserved
-loop-i-preserved c =
-    let l = c.loop-i in
-    scanning_turn l.invariant (omega arith) (found_true c.is_number.ensures c.if-not-is_number.false)
-
-pub returns : goal.returns
+pub returns-else-all : goal.returns-else-all
 unfolding is_line
-returns c =
+returns-else-all c =
     let a = c.args in
-    ap (λ (b : Bool). b && eqb (entry_of a.text.now (a.at + a.count * field_width)) line_end)
-    (scanning_end c.loop-i.invariant (omega arith))
+    let fields = λ (k : ℕ). is_number a.text.now (a.at + k * field_width) in
+    let e = all_from_yields_List fields _ _ c.all.result c.all.ensures.ran (YieldsList-from_range 0 a.count a.count (search rules) (omega arith)) (λ x b q k. search (rules, tests)) in
+    c.if-all.false
+    ∙ ap (λ (b : Bool). b && eqb (entry_of a.text.now (a.at + a.count * field_width)) line_end) (sym c.if-all.false ∙ e ∙ tests_below a.count fields)

@@ -4,5 +4,5 @@ use Rattle.algebra.specs.Lists.{entry_of}
 use Rattle.fields.proofs.Values.{Value}
 use Rattle.fields.proofs.value_at.Given as goal
 
-abbrev pub invariant-loop-i : goal.invariant-loop-i
-invariant-loop-i l = Value (λ k. entry_of l.text (l.at + k)) l.v l.i
+abbrev pub invariant-loop-byte : goal.invariant-loop-byte
+invariant-loop-byte l = Value (λ k. entry_of l.text (l.at + k)) l.v l.byte-index

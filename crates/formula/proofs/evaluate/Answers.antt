@@ -1,5 +1,5 @@
 -- `evaluate` meets its contract: each return is at one way that the reading of the text ends.
-use Rattle.formula.specs.Letters.{lending}
+use Rattle.formula.specs.Lending.{lent}
 use Rattle.formula.proofs.Ending.{too_long, nothing_read, worked}
 use Rattle.formula.proofs.evaluate.Goals as goal
 
@@ -7,10 +7,10 @@ pub returns-then-text-gt-LONGEST_TEXT : goal.returns-then-text-gt-LONGEST_TEXT
 returns-then-text-gt-LONGEST_TEXT c = too_long c.if-text-gt-LONGEST_TEXT.true
 
 pub returns-in_default : goal.returns-in_default
-returns-in_default c = nothing_read c.sum-found.ensures c.in_default.is
+returns-in_default c = nothing_read c.sum.ensures c.in_default.is
 
 pub returns : goal.returns
 returns c =
     let g = c.args in
-    worked {β = lending g.a.now g.b.now g.c.now g.d.now} c.sum-found.ensures c.in-Read.is
-    c.if-text-gt-LONGEST_TEXT.false c.due.ensures
+    worked {β = lent g.blocks.now} c.sum.ensures c.in-Some.is
+    c.if-text-gt-LONGEST_TEXT.false c.check_end.ensures

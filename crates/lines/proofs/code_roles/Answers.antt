@@ -1,8 +1,8 @@
 -- `code_roles` meets its contract: its columns are the whole code's.
-use mathlib.Core.Path.{refl, ap, ◌∙◌}
+use mathlib.Core.Path.{refl}
 use native.Mathlib.Omega.{arith}
 use Rattle.params.proofs.Accepted.{n_short}
-use Rattle.parity.specs.Columns.{roles_of, dimension}
+use Rattle.parity.proofs.OfCode.{accepted_code}
 use Rattle.parity.specs.Selected.{on_whole, as_long}
 use Rattle.lines.proofs.code_roles.Goals as goal
 
@@ -12,21 +12,13 @@ number_columns-requires c = omega (arith, n_short c.requires.0.limits)
 pub slice_bounds-columns-end : goal.slice_bounds-columns-end
 slice_bounds-columns-end c = omega (arith, n_short c.requires.0.limits)
 
-pub slice_bounds-roles-end : goal.slice_bounds-roles-end
-slice_bounds-roles-end c =
+pub slice_bounds-code-end : goal.slice_bounds-code-end
+slice_bounds-code-end c =
     as_long c.args.c c.number_columns.ensures refl
 
-pub roles-requires : goal.roles-requires
-roles-requires c =
-    let cols = c.number_columns.ensures in
-    (on_whole c.args.c cols c.requires.0, as_long c.args.c cols c.requires.1)
+pub invariant_of-code : goal.invariant_of-code
+invariant_of-code c =
+    let O = on_whole c.args.c c.number_columns.ensures c.requires.0 in record { accepted = accepted_code O.accepted; selected = O.selected }
 
-pub returns : goal.returns
-returns c =
-    let a = c.args in
-    let cols = c.number_columns.ensures in
-    let call = c.roles.ensures in
-    record {
-      value = call.value ∙ ap (dimension a.c a.h.now) cols;
-      roles_after = call.out_after ∙ ap (roles_of a.c a.h.now) cols;
-    }
+pub roles-requires : goal.roles-requires
+roles-requires c = as_long c.args.c c.number_columns.ensures c.requires.1

@@ -2,20 +2,9 @@
 use mathlib.Core.Path.{◌∙◌}
 use native.Mathlib.Omega.{arith}
 use Rattle.params.proofs.Accepted.{n_short}
-use Rattle.params.proofs.Stored.{offset_fits}
 use Rattle.parity.specs.ColumnLaws.{message_length-le}
 use Rattle.lines.proofs.Rows.{support_held, listing_written}
 use Rattle.lines.proofs.compute_lines.Goals as goal
-
-pub code_support-requires : goal.code_support-requires
-code_support-requires c =
-    let p = c.requires in
-    let L = p.accepted.0.limits in
-    omega (arith, offset_fits p.accepted.0, L.n_low, L.h_length, p.accepted.1.long, p.support_len)
-
-pub code_roles-k-requires : goal.code_roles-k-requires
-code_roles-k-requires c =
-    let p = c.requires in (p.accepted.0, p.support_len.1)
 
 pub put_lines-requires : goal.put_lines-requires
 put_lines-requires c =

@@ -3,7 +3,7 @@ use mathlib.Core.Path.{refl, sym, ap, ◌∙◌}
 use Prim.Native.Nat.{ℕ, ◌+◌}
 use native.Mathlib.Omega.{arith}
 use lib.ListN.{length}
-use Rattle.fields.proofs.Printing.{joining_start, joining_length, joining_turn, joining_end}
+use Rattle.fields.proofs.Printing.{joining_start, joining_turn}
 use Rattle.lines.specs.Lengths.{length_columns}
 use Rattle.lines.specs.Listing.{column_line}
 use Rattle.lines.proofs.put_columns.Goals as goal
@@ -12,9 +12,6 @@ pub loop-j-init : goal.loop-j-init
 loop-j-init c =
     let a = c.args in
     (refl, omega arith, joining_start (column_line a.h.now a.support.now a.roles.now) (length a.h.now) a.at a.out.now)
-
-pub put_column-next-requires : goal.put_column-next-requires
-put_column-next-requires c = omega (arith, joining_length c.loop-j.invariant.2)
 
 pub loop-j-preserved : goal.loop-j-preserved
 loop-j-preserved c =
@@ -26,9 +23,3 @@ loop-j-preserved c =
       joining_turn l.invariant.2 (omega arith)
           (l.invariant.1 ∙ ap (λ (k : ℕ). a.at + k) (sym (length_columns a.h.now a.support.now a.roles.now l.j))) call.ensures.out_after,
     )
-
-pub shape_of-out : goal.shape_of-out
-shape_of-out c = joining_length c.loop-j.invariant.2
-
-pub returns : goal.returns
-returns c = joining_end c.loop-j.invariant.2 (omega arith)

@@ -1,26 +1,6 @@
 -- `advance` meets its contract, by either pair as the pivot.
-use native.Mathlib.Nat.{le_of_lt}
-use native.Mathlib.Omega.{arith}
 use Rattle.locator.proofs.Turns.{chosen_first, chosen_second, advanced_first, advanced_second}
 use Rattle.locator.proofs.advance.Goals as goal
-
-pub discrepancy-a-requires : goal.discrepancy-a-requires
-discrepancy-a-requires c =
-    let pre = c.requires in
-    (pre.width.0, pre.pair.0, le_of_lt pre.width.3, pre.width.1, pre.width.2)
-
-pub discrepancy-b-requires : goal.discrepancy-b-requires
-discrepancy-b-requires c =
-    let pre = c.requires in
-    (pre.width.0, pre.pair.1, le_of_lt pre.width.4, pre.width.1, pre.width.2)
-
-pub product-square-requires : goal.product-square-requires
-product-square-requires c =
-    let pre = c.requires in
-    (pre.width.0, pre.width.1, pre.width.1)
-
-pub leads-requires : goal.leads-requires
-leads-requires c = tt
 
 pub turn-requires : goal.turn-requires
 turn-requires c =
@@ -28,13 +8,6 @@ turn-requires c =
     record {
       width = (pre.width.0, c.product-square.ensures.1, c.discrepancy-a.ensures.1, c.discrepancy-b.ensures.1, pre.width.3, pre.width.4);
       pair = (pre.pair.0, pre.pair.1, chosen_first (c.leads.ensures c.args.m) c.if-leads.true);
-    }
-
-pub overflow_add-result : goal.overflow_add-result
-overflow_add-result c =
-    record {
-      fits = omega
-          (arith, c.requires.width.3);
     }
 
 pub returns-then-leads : goal.returns-then-leads

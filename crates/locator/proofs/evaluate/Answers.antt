@@ -1,47 +1,31 @@
--- `evaluate` meets its contract. The loop's invariant: `value` is that of the coefficients from k on.
+-- `evaluate` meets its contract. The loop's invariant: `value` is that of the coefficients from those on that are left.
+use mathlib.Core.Path.{◌≡◌, sym, ap, ◌∙◌, subst}
+use Prim.Native.Nat.{ℕ}
 use native.Mathlib.Omega.{arith}
+use Rattle.std.proofs.lemmas.List.{length-take}
+use Rattle.std.specs.Slice.Iter.{iter_rest}
+use Rattle.std.specs.Iterator.Adapters.{rev_source}
 use Rattle.algebra.specs.Xor.{◌⊕◌}
-use Rattle.locator.proofs.Loops.{evaluate_empty, evaluate_start, evaluate_turn, evaluate_end}
+use Rattle.locator.proofs.Loops.{Walking, evaluate_empty, evaluate_end, walking_start, walking_turn}
 use Rattle.locator.proofs.evaluate.Goals as goal
 
-pub returns-then-n-eq0 : goal.returns-then-n-eq0
-returns-then-n-eq0 c =
-    evaluate_empty c.requires.0 c.requires.1 c.args.y c.if-n-eq0.true
+pub returns-in_default : goal.returns-in_default
+returns-in_default c =
+    let H = c.requires.1 in
+    evaluate_empty c.requires.0 H c.args.y (omega (arith, c.in_default.ensures.cases, length-take {A = ℕ}, H.long))
 
-pub overflow_sub-k : goal.overflow_sub-k
-overflow_sub-k c = omega arith
+pub loop-coefficient-init : goal.loop-coefficient-init
+loop-coefficient-init c =
+    let a = c.args in
+    let left : c.in-Some.lower.now ≡ iter_rest (rev_source c.into_iter-coefficient-iterator.result) =
+    sym (ap (λ s. iter_rest (rev_source s)) c.into_iter-coefficient-iterator.ensures.into_iter_gives ∙ ap iter_rest c.rev-coefficient-items.ensures.source ∙ c.iter.ensures.rest) in
+    subst (Walking a.m a.n a.coefficients.now a.y c.in-Some.highest.now) left
+    (walking_start c.requires.0 c.requires.1 c.requires.2 a.y _ c.in-Some.ensures.cases)
 
-pub bounds-coefficients-k : goal.bounds-coefficients-k
-bounds-coefficients-k c =
-    let pre = c.requires in
-    omega (arith, c.if-n-eq0.false, pre.1.long, pre.2)
-
-pub loop-k-init : goal.loop-k-init
-loop-k-init c =
-    evaluate_start c.requires.0 c.requires.1 c.args.y c.requires.2 (omega (arith, c.if-n-eq0.false))
-
-pub overflow_sub-k-in-loop-k : goal.overflow_sub-k-in-loop-k
-overflow_sub-k-in-loop-k c = omega arith
-
-pub bounds-coefficients-k-in-loop-k : goal.bounds-coefficients-k-in-loop-k
-bounds-coefficients-k-in-loop-k c =
-    let pre = c.requires in
-    omega (arith, c.loop-k.invariant.bound, pre.1.long, pre.2)
-
-pub product-requires : goal.product-requires
-product-requires c =
-    let pre = c.requires in
-    (pre.0, pre.3, c.loop-k.invariant.element)
-
-pub loop-k-smaller : goal.loop-k-smaller
-loop-k-smaller c = omega arith
-
-pub loop-k-preserved : goal.loop-k-preserved
+pub loop-coefficient-preserved : goal.loop-coefficient-preserved
 unfolding ◌⊕◌
-loop-k-preserved c =
-    let l = c.loop-k in
-    evaluate_turn c.requires.0 c.requires.1 c.args.y c.requires.2 l.invariant (omega arith) c.product.ensures.0
+loop-coefficient-preserved c =
+    walking_turn c.requires.0 c.requires.1 c.requires.2 c.args.y _ c.loop-coefficient.invariant c.in-Some-coefficient.ensures.steps c.product.ensures.0
 
 pub returns : goal.returns
-returns c =
-    evaluate_end c.requires.0 c.requires.1 c.args.y c.loop-k.invariant (omega arith)
+returns c = evaluate_end c.requires.0 c.requires.1 c.args.y c.loop-coefficient.invariant.evaluating (omega (arith, c.in-None.ensures.steps.0))

@@ -1,9 +1,8 @@
--- `evaluate` meets its contract. The loop's invariant: `value` is that of the coefficients from k on.
-use Rattle.locator.proofs.Loops.{Evaluating}
+-- `evaluate` meets its contract. The loop's invariant: `value` is that of the coefficients from those on that are left.
+use Rattle.std.specs.Iterator.Adapters.{rev_source}
+use Rattle.std.specs.Slice.Iter.{iter_rest}
+use Rattle.locator.proofs.Loops.{Walking}
 use Rattle.locator.proofs.evaluate.Given as goal
 
-abbrev pub invariant-loop-k : goal.invariant-loop-k
-invariant-loop-k l = Evaluating l.m l.n l.coefficients l.y l.value l.k
-
-abbrev pub decreases-loop-k : goal.decreases-loop-k
-decreases-loop-k l = l.k
+abbrev pub invariant-loop-coefficient : goal.invariant-loop-coefficient
+invariant-loop-coefficient l = Walking l.m l.n l.fn.coefficients l.y l.value (iter_rest (rev_source l.coefficient-iterator))

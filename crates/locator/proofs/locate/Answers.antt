@@ -1,27 +1,14 @@
--- `locate` meets its contract: where the first pair of the pass has the larger degree, the second one is copied over it.
-use mathlib.Core.Path.{sym, ◌∙◌}
+-- `locate` meets its contract. The loop's invariant: the pass after the roots so far.
 use native.Mathlib.Omega.{arith}
-use Rattle.locator.proofs.Turns.{located_first, located_copied}
+use Rattle.locator.proofs.Turns.{passed_none, passed_more, passed_all, located_second}
 use Rattle.locator.proofs.locate.Goals as goal
 
-pub copy-requires : goal.copy-requires
-copy-requires c =
-    let G = c.pass-p.ensures in
-    G.first.even_half.long ∙ sym G.second.even_half.long
+pub loop-i-init : goal.loop-i-init
+loop-i-init c = passed_none c.requires.0 c.args.roots.now c.args.syndrome.now c.start.ensures
 
-pub copy-requires-then-roots-p : goal.copy-requires-then-roots-p
-copy-requires-then-roots-p c =
-    let G = c.pass-p.ensures in
-    G.first.odd_half.long ∙ sym G.second.odd_half.long
+pub loop-i-preserved : goal.loop-i-preserved
+loop-i-preserved c = passed_more c.requires.0 c.requires.1 c.loop-i.invariant (omega arith) c.advance-p.ensures
 
 pub returns-then-roots-p : goal.returns-then-roots-p
 returns-then-roots-p c =
-    let even = c.copy.ensures in
-    let odd = c.copy-then-roots-p.ensures in
-    located_copied c.requires.width.0 c.pass-p.ensures
-    (omega (arith, c.if-roots-p.true)) even odd
-
-pub returns-else-roots-p : goal.returns-else-roots-p
-returns-else-roots-p c =
-    located_first c.requires.width.0 c.pass-p.ensures
-    (omega (arith, c.if-roots-p.false))
+    located_second c.requires.0 (passed_all c.args.roots.now (omega arith) c.loop-i.invariant) c.if-roots-p.true

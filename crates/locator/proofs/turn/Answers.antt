@@ -1,6 +1,6 @@
 -- `turn` meets its contract: the other pair takes what it needs of the pivot while the pivot is as it was, half by half.
 use native.Mathlib.Omega.{arith}
-use Rattle.locator.proofs.Turns.{half_weaken, spare_even, spare_odd, turned}
+use Rattle.locator.proofs.Turns.{half_weaken, spare_even, spare_odd}
 use Rattle.locator.proofs.turn.Goals as goal
 
 pub combine-requires : goal.combine-requires
@@ -20,18 +20,3 @@ combine-requires-2 c =
       width = (pre.width.0, omega (arith, pre.width.5), pre.width.2, pre.width.3);
       half = (half_weaken (omega (arith, pre.width.4)) pivot, pre.pair.1.odd_half, spare_odd pre.width.0 pre.pair.2 pivot);
     }
-
-pub raise-requires : goal.raise-requires
-raise-requires c =
-    let pre = c.requires in
-    (pre.width.0, omega (arith, pre.width.4), pre.width.1, pre.pair.0.even_half)
-
-pub raise-requires-2 : goal.raise-requires-2
-raise-requires-2 c =
-    let pre = c.requires in
-    (pre.width.0, omega (arith, pre.width.4), pre.width.1, pre.pair.0.odd_half)
-
-pub returns : goal.returns
-returns c =
-    turned c.combine.ensures c.combine-2.ensures c.raise.ensures
-    c.raise-2.ensures

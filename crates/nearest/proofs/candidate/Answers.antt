@@ -7,6 +7,7 @@ use lib.ListN.{replicate}
 use lib.Seq.{length-take-le}
 use Rattle.slices.specs.Lengths.{longest}
 use Rattle.params.proofs.Accepted.{n_short}
+use Rattle.parity.proofs.OfCode.{on_columns}
 use Rattle.nearest.proofs.Decoding.{roots_short}
 use Rattle.nearest.proofs.candidate.Goals as goal
 
@@ -15,38 +16,35 @@ abbrev zeros : List ℕ
 zeros = replicate longest 0
 
 pub slice_bounds-roots-end : goal.slice_bounds-roots-end
-slice_bounds-roots-end c = omega (arith, roots_short c.requires.0.code)
+slice_bounds-roots-end c = omega (arith, roots_short (on_columns c.args.decoder.now.code))
 
 pub slice_bounds-find_candidate-end : goal.slice_bounds-find_candidate-end
 slice_bounds-find_candidate-end c =
-    sym (length-take-le c.args.c.t zeros
-    (roots_short c.requires.0.code))
+    sym (length-take-le c.args.decoder.now.code.c.t zeros
+    (roots_short (on_columns c.args.decoder.now.code)))
 
 pub slice_bounds-support-end : goal.slice_bounds-support-end
 slice_bounds-support-end c =
-    omega (arith, n_short c.requires.0.code.accepted.limits)
+    omega (arith, n_short (on_columns c.args.decoder.now.code).accepted.limits)
 
 pub slice_bounds-find_candidate-end-2 : goal.slice_bounds-find_candidate-end-2
 slice_bounds-find_candidate-end-2 c =
-    sym (length-take-le c.args.c.n zeros
-    (n_short c.requires.0.code.accepted.limits))
+    sym (length-take-le c.args.decoder.now.code.c.n zeros
+    (n_short (on_columns c.args.decoder.now.code).accepted.limits))
 
 pub slice_bounds-syndrome-end : goal.slice_bounds-syndrome-end
-slice_bounds-syndrome-end c = omega (arith, roots_short c.requires.0.code)
+slice_bounds-syndrome-end c = omega (arith, roots_short (on_columns c.args.decoder.now.code))
 
 pub slice_bounds-find_candidate-end-3 : goal.slice_bounds-find_candidate-end-3
 slice_bounds-find_candidate-end-3 c =
-    sym (length-take-le c.args.c.t zeros
-    (roots_short c.requires.0.code))
+    sym (length-take-le c.args.decoder.now.code.c.t zeros
+    (roots_short (on_columns c.args.decoder.now.code)))
 
 pub find_candidate-requires : goal.find_candidate-requires
 find_candidate-requires c =
-    let O = c.requires.0.code in
-    let t_long = length-take-le c.args.c.t zeros (roots_short O) in
+    let O = on_columns c.args.decoder.now.code in
+    let t_long = length-take-le c.args.decoder.now.code.c.t zeros (roots_short O) in
     record {
       received = c.requires;
-      roots_len = (t_long, length-take-le c.args.c.n zeros (n_short O.accepted.limits), t_long);
+      roots_len = (t_long, length-take-le c.args.decoder.now.code.c.n zeros (n_short O.accepted.limits), t_long);
     }
-
-pub returns : goal.returns
-returns c = c.find_candidate.ensures

@@ -1,44 +1,35 @@
--- `is_code_word` meets its contract: it scans the rows.
-use mathlib.Core.Path.{refl, sym, ◌∙◌}
+-- `is_code_word` meets its contract: it tests the rows.
+use mathlib.Core.Path.{◌≡◌, refl, sym, ap, ◌∙◌}
+use mathlib.Core.Bool.{Bool}
+use Prim.Native.Nat.{ℕ}
 use native.Mathlib.Omega.{arith}
-use borrow.Author.Tests.{eq-eqb, ne_eqb}
+use native.Mathlib.Nat.{zero-add}
+use borrow.Author.Rules.{rules}
+use borrow.Author.Tests.{tests}
 use lib.Dec.{eqb}
-use Rattle.algebra.specs.Scanning.{scanning_start, scanning_turn, scanning_fails, scanning_end}
-use Rattle.parity.specs.Parity.{reaches, signature_syndrome}
-use Rattle.parity.specs.Word.{syndrome_at, is_code_word}
+use Rattle.std.proofs.lemmas.Iterator.{YieldsList-from_range, serves_from_Range}
+use Rattle.std.proofs.lemmas.Iterator.Search.{all_from_yields_List}
+use Rattle.algebra.specs.All.{all}
+use Rattle.algebra.specs.AllLaws.{all_is, all_fails, all_cong}
+use Rattle.parity.specs.Parity.{signature_sum, reaches, signature_syndrome}
+use Rattle.parity.proofs.OfCode.{on_columns}
+use Rattle.parity.specs.Word.{is_code_word}
 use Rattle.nearest.proofs.Decoding.{summed}
+use Rattle.slices.proofs.Entries.{tests_below}
 use Rattle.nearest.proofs.is_code_word.Goals as goal
 
-pub loop-i-init : goal.loop-i-init
-loop-i-init c =
-    let a =
-    c.args in
-    (refl, scanning_start a.c.t (λ k. eqb (syndrome_at a.c a.h.now a.cols.now a.word.now k) 0))
-
-pub syndrome_at-requires : goal.syndrome_at-requires
-syndrome_at-requires c =
-    let (O, bits) =
-    c.requires in
-    (summed O bits, reaches O.accepted O.selected c.loop-i.i c.loop-i-test.true)
-
-pub returns-then-syndrome_at-ne0 : goal.returns-then-syndrome_at-ne0
-unfolding is_code_word
-returns-then-syndrome_at-ne0 c =
-    let O = c.requires.0 in
-    let l = c.loop-i in
-    let row = signature_syndrome O.accepted O.selected c.args.word.now l.i c.loop-i-test.true in
-    scanning_fails l.invariant.1 c.loop-i-test.true (ne_eqb _ 0 (λ e. c.if-syndrome_at-ne0.true (c.syndrome_at.ensures.0 ∙ row ∙ e)))
-
-pub loop-i-preserved : goal.loop-i-preserved
-loop-i-preserved c =
-    let O = c.requires.0 in
-    let l = c.loop-i in
-    let row = signature_syndrome O.accepted O.selected c.args.word.now l.i c.loop-i-test.true in (
-      refl,
-      scanning_turn l.invariant.1 c.loop-i-test.true
-          (eq-eqb _ 0 (sym (c.syndrome_at.ensures.0 ∙ row) ∙ c.if-syndrome_at-ne0.false)),
-    )
+pub all-requires-clause-callable : goal.all-requires-clause-callable
+all-requires-clause-callable c =
+    let O = on_columns c.args.code.now in
+    let sums = summed O c.requires in
+    let rows = reaches O.accepted O.selected in
+    serves_from_Range (λ x q k. search (rules, tests)) (λ x low high. search (rules, sums, rows))
 
 pub returns : goal.returns
 unfolding is_code_word
-returns c = scanning_end c.loop-i.invariant.1 (omega arith)
+returns c =
+    let a = c.args in
+    let O = on_columns a.code.now in
+    let row = λ (i : ℕ). eqb (signature_sum a.code.now.c.m a.code.now.h.now a.code.now.cols.now a.word.now i) 0 in
+    all_from_yields_List row _ _ c.all.result c.all.ensures.ran (YieldsList-from_range 0 a.code.now.c.t a.code.now.c.t (search rules) (omega arith)) (λ x b q k. search (rules, tests))
+    ∙ tests_below a.code.now.c.t row ∙ all_cong a.code.now.c.t (λ i l. ap (λ (x : ℕ). eqb x 0) (signature_syndrome O.accepted O.selected a.word.now i l))

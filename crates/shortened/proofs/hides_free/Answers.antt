@@ -21,19 +21,19 @@ spared false false e = refl
 pub loop-p-init : goal.loop-p-init
 loop-p-init c = (refl, scanning_start (length c.args.hidden.now) _)
 
-pub returns-then-hidden-p : goal.returns-then-hidden-p
+pub returns-then-mark-leads : goal.returns-then-mark-leads
 unfolding hidden_pass free_at lead_at
-returns-then-hidden-p c =
+returns-then-mark-leads c =
     let l = c.loop-p in
     let a = c.args in
-    scanning_fails l.invariant.1 (omega arith) (caught (is_sent a.hidden.now l.p) (lead_at a.leads.now l.p) c.if-hidden-p.true)
+    scanning_fails l.invariant.1 (omega arith) (caught (is_sent a.hidden.now l.p) (lead_at a.leads.now l.p) c.if-mark-leads.true)
 
 pub loop-p-preserved : goal.loop-p-preserved
 unfolding free_at lead_at
 loop-p-preserved c =
     let l = c.loop-p in
     let a = c.args in
-    (refl, scanning_turn l.invariant.1 (omega arith) (spared (is_sent a.hidden.now l.p) (lead_at a.leads.now l.p) c.if-hidden-p.false))
+    (refl, scanning_turn l.invariant.1 (omega arith) (spared (is_sent a.hidden.now l.p) (lead_at a.leads.now l.p) c.if-mark-leads.false))
 
 pub returns : goal.returns
 unfolding hidden_pass

@@ -12,7 +12,7 @@ use Rattle.algebra.specs.Lists.{entry_of}
 use Rattle.algebra.specs.Places.{count}
 use Rattle.algebra.specs.PlaceLaws.{count-le}
 use Rattle.shortened.specs.Marks.{is_sent, sent_count, sent_of}
-use Rattle.shortened.proofs.keep_sent.Goals.{then-hidden-j-eq0, else-hidden-j-eq0}
+use Rattle.shortened.proofs.keep_sent.Goals.{then-hide-eq0, else-hide-eq0}
 use Rattle.shortened.proofs.keep_sent.Goals as goal
 
 pub loop-j-init : goal.loop-j-init
@@ -34,7 +34,7 @@ offset_bounds-columns-kept c =
     omega (arith, l.invariant.2.number, count-le l.j (is_sent c.args.hidden.now))
 
 pub bounds-columns-kept : goal.bounds-columns-kept
-bounds-columns-kept c = choosing_index c.loop-j.invariant.2 (omega arith) (eq-eqb _ _ c.if-hidden-j-eq0.true)
+bounds-columns-kept c = choosing_index c.loop-j.invariant.2 (omega arith) (eq-eqb _ _ c.if-hide-eq0.true)
 
 pub overflow_add-kept : goal.overflow_add-kept
 overflow_add-kept c =
@@ -48,7 +48,7 @@ loop-j-preserved c =
     let old = choosing_old C l.j (le_refl l.j) in (
       refl,
       l.invariant.1,
-      elim c.if-hidden-j-eq0.branch [ then-hidden-j-eq0 w ↦ choosing_taken C (omega arith) (eq-eqb _ _ w.if-hidden-j-eq0.true) (w.columns-is ∙ ap (λ (x : ℕ). set l.columns l.kept x) old) w.kept-is | else-hidden-j-eq0 w ↦ choosing_passed_over C (omega arith) (ne_eqb _ _ w.if-hidden-j-eq0.false) w.columns-is w.kept-is ],
+      elim c.if-hide-eq0.branch [ then-hide-eq0 w ↦ choosing_taken C (omega arith) (eq-eqb _ _ w.if-hide-eq0.true) (w.columns-is ∙ ap (λ (x : ℕ). set l.columns l.kept x) old) w.kept-is | else-hide-eq0 w ↦ choosing_passed_over C (omega arith) (ne_eqb _ _ w.if-hide-eq0.false) w.columns-is w.kept-is ],
     )
 
 pub shape_of-columns : goal.shape_of-columns

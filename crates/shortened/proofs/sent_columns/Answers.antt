@@ -5,9 +5,11 @@ use Prim.Native.Nat.{ℕ, ◌≤◌}
 use native.Mathlib.Omega.{arith}
 use lib.ListN.{length, take}
 use lib.Seq.{length-take-le, get_or-take}
-use Rattle.refusals.specs.declared.Counted.TheVariants.{Count, Refused}
+use Rattle.refusals.specs.Counted.{Count, Refused}
+use Rattle.refusals.specs.Testing.{tested_none, tested_due, handed_on}
 use Rattle.refusals.specs.RuleLaws.{refuse, accept}
 use Rattle.slices.specs.Lengths.{longest}
+use Rattle.parity.proofs.OfCode.{accepted_code}
 use Rattle.parity.specs.Selected.{OnColumns, columns_short}
 use Rattle.params.specs.declared.Parameters.{Parameters}
 use Rattle.shortened.specs.Marks.{sent_count, sent_of}
@@ -23,33 +25,26 @@ few hidden columns O l = omega (arith, sent_le hidden, columns_short O, length-t
 front : (hidden columns : List ℕ) → sent_of hidden columns ≡ sent_of hidden (take (length hidden) columns)
 front hidden columns = sent_cong hidden columns (take (length hidden) columns) (λ p l. sym (get_or-take (length hidden) columns p 0 l))
 
-pub slice_bounds-mark_fault-end-2 : goal.slice_bounds-mark_fault-end-2
-slice_bounds-mark_fault-end-2 c =
+pub invariant_of-code : goal.invariant_of-code
+invariant_of-code c =
+    let O = c.requires.0 in record { accepted = accepted_code O.accepted; selected = O.selected }
+
+pub check_marks-requires : goal.check_marks-requires
+check_marks-requires c =
     sym (length-take-le (length c.args.hidden.now) c.args.columns.now c.requires.1)
 
-pub mark_fault-number-requires : goal.mark_fault-number-requires
-mark_fault-number-requires c =
-    (c.requires.0, sym (length-take-le (length c.args.hidden.now) c.args.columns.now c.requires.1))
-
-pub returns-then-number-ne0 : goal.returns-then-number-ne0
-returns-then-number-ne0 c =
-    let due = c.mark_fault-number.ensures in
-    let ne = c.if-number-ne0.true in
+pub returns-in_err-check_marks : goal.returns-in_err-check_marks
+returns-in_err-check_marks c =
+    let (ne, due) = tested_due c.in_err-check_marks.ensures in
     record {
-      value = refuse Refused _ due ne;
+      value = handed_on _ c.from_residual.ensures.1 ∙ refuse Refused _ due ne;
       columns_after = λ none. absurd (ne (due ∙ none));
     }
-
-pub overflow_cast-result : goal.overflow_cast-result
-overflow_cast-result c =
-    let short = few c.args.hidden.now c.args.columns.now c.requires.0 c.requires.1 in
-    record { fits = omega (arith, c.keep_sent.ensures.value, short) }
 
 pub returns : goal.returns
 returns c =
     let record { value = count; columns_after = kept } = c.keep_sent.ensures in
-    let due = c.mark_fault-number.ensures in
     record {
-      value = ap Count count ∙ accept Refused _ due c.if-number-ne0.false;
+      value = ap Count count ∙ accept Refused _ (sym (tested_none c.in_ok-check_marks.ensures)) (omega arith);
       columns_after = λ none. kept ∙ front c.args.hidden.now c.args.columns.now;
     }

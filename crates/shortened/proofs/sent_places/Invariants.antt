@@ -6,5 +6,5 @@ use Rattle.algebra.specs.Places.{count}
 use Rattle.shortened.specs.Marks.{is_sent}
 use Rattle.shortened.proofs.sent_places.Given as goal
 
-abbrev pub invariant-loop-p : goal.invariant-loop-p
-invariant-loop-p l = (l.p-end ≡ length l.hidden) × (l.p ≤ length l.hidden) × (l.sent ≡ count l.p (is_sent l.hidden))
+abbrev pub invariant-loop-mark : goal.invariant-loop-mark
+invariant-loop-mark l = (l.mark-index-end ≡ length l.hidden) × (l.mark-index ≤ length l.hidden) × (l.sent ≡ count l.mark-index (is_sent l.hidden))

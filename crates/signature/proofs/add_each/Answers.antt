@@ -10,15 +10,9 @@ use Rattle.signature.proofs.add_each.Goals as goal
 pub loop-i-init : goal.loop-i-init
 loop-i-init c = (refl, filling_start (added c.args.a.now c.args.x) (length c.args.out.now) c.args.out.now refl)
 
-pub bounds-out-i : goal.bounds-out-i
-bounds-out-i c = filling_index c.loop-i.invariant.1 (omega arith)
-
 pub loop-i-preserved : goal.loop-i-preserved
 unfolding ◌⊕◌
 loop-i-preserved c = (refl, filling_turn c.loop-i.invariant.1 (omega arith) refl)
-
-pub shape_of-out : goal.shape_of-out
-shape_of-out c = filling_length c.loop-i.invariant.1
 
 pub returns : goal.returns
 returns c = filling_end c.loop-i.invariant.1 (omega arith)

@@ -18,15 +18,6 @@ pub loop-j-init : goal.loop-j-init
 unfolding all ◌⊕◌
 loop-j-init c = (c.scan.invariant.0, refl, omega arith, refl)
 
-pub offset_bounds-inverses-i-in-loop-j : goal.offset_bounds-inverses-i-in-loop-j
-unfolding ◌⊕◌
-offset_bounds-inverses-i-in-loop-j c =
-    omega (
-      arith,
-      index_below c.args.n c.scan.i c.loop-j.j c.requires.0 c.scan-test.true
-          c.loop-j-test.true,
-    )
-
 pub bounds-inverses-i-in-loop-j : goal.bounds-inverses-i-in-loop-j
 unfolding ◌⊕◌
 bounds-inverses-i-in-loop-j c =

@@ -12,11 +12,6 @@ pub loop-i-init : goal.loop-i-init
 loop-i-init c =
     (refl, c.requires.width, multiplying_start c.args.m c.requires.width c.args.h.now c.args.products.now)
 
-pub bounds-products-i : goal.bounds-products-i
-bounds-products-i c =
-    let l = c.loop-i in
-    omega (arith, multiplying_length c.args.m l.invariant.1 c.args.h.now c.requires.fits l.invariant.2, c.loop-i-test.true)
-
 pub product-before-requires : goal.product-before-requires
 product-before-requires c =
     let l = c.loop-i in
@@ -34,11 +29,6 @@ loop-i-preserved c =
       multiplying_turn c.args.m l.invariant.1 c.args.h.now c.requires.fits l.invariant.2 c.loop-i-test.true
           c.product-before.ensures.0,
     )
-
-pub shape_of-products : goal.shape_of-products
-shape_of-products c =
-    let l = c.loop-i in
-    multiplying_length c.args.m l.invariant.1 c.args.h.now c.requires.fits l.invariant.2
 
 pub returns : goal.returns
 returns c =

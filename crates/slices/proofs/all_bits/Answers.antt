@@ -1,28 +1,15 @@
--- `all_bits` meets its contract: it scans the entries.
-use mathlib.Core.Path.{◌≡◌, refl}
-use mathlib.Core.Bool.{true}
-use Prim.Native.Nat.{ℕ, ◌≤◌}
-use native.Mathlib.Omega.{arith}
-use borrow.Author.Tests.{le-ltb, lt-ltb}
+-- `all_bits` meets its contract: the iterator tests every entry.
+use Rattle.std.proofs.Common.{rules, ◌≡◌, true, false}
+use Rattle.std.proofs.lemmas.Iterator.{cases_from_all, YieldsList-from_slice}
+use borrow.Author.Tests.{tests}
 use lib.Dec.{ltb}
-use lib.ListN.{length}
-use Rattle.algebra.specs.Scanning.{scanning_start, scanning_turn, scanning_fails, scanning_end}
 use Rattle.slices.specs.Bits.{all_bits}
+use Rattle.slices.proofs.Entries.{tests_entries}
 use Rattle.slices.proofs.all_bits.Goals as goal
-
-bit : {x : ℕ} → x ≤ 1 → ltb x 2 ≡ true
-bit {x} l = lt-ltb x 2 (omega arith)
-
-pub loop-i-init : goal.loop-i-init
-loop-i-init c = (refl, scanning_start (length c.args.a.now) _)
-
-pub returns-then-other : goal.returns-then-other
-unfolding all_bits
-returns-then-other c = scanning_fails c.loop-i.invariant.1 c.loop-i-test.true (le-ltb _ 2 c.if-other.true)
-
-pub loop-i-preserved : goal.loop-i-preserved
-loop-i-preserved c = (refl, scanning_turn c.loop-i.invariant.1 c.loop-i-test.true (bit c.if-other.false))
 
 pub returns : goal.returns
 unfolding all_bits
-returns c = scanning_end c.loop-i.invariant.1 (omega arith)
+returns c =
+    tests_entries c.args.a.now (λ x. ltb x 2) _
+    (cases_from_all _ _ _ (λ x. ltb x 2 ≡ true) (λ x. ltb x 2 ≡ false) c.all.ensures.ran (YieldsList-from_slice c.args.a.now cc)
+    (λ x q k. search (rules, tests)) (λ x q k. search (rules, tests)))

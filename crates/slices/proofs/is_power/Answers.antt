@@ -1,30 +1,35 @@
--- `is_power` meets its contract. The loop's invariant: p is a power of two, and those before it are below s.
-use mathlib.Core.Path.{sym, subst}
-use Prim.Native.Nat.{ℕ, ◌<◌}
-use native.Mathlib.Omega.{arith}
-use lib.Pow.{pow_pos}
-use Rattle.slices.proofs.Doubling.{doubling_start, doubling_turn, doubling_end, too_long}
+-- `is_power` meets its contract: up to the longest length the two tests agree, as computing both at each number shows.
+use Rattle.std.specs.Prelude.{◌≡◌, refl, Bool, true, false, ◌&&◌, ℕ, suc, ◌^◌, ◌≤◌, ◌<◌}
+use Rattle.std.specs.Int.{is_power_of_two}
+use Rattle.std.proofs.Common.{sym, ap, ◌∙◌, arith, pow_mono}
+use Rattle.std.proofs.lemmas.Bool.{agree_below, agree_below_at, lt-leb, le-leb}
+use Rattle.std.proofs.Math.Decide.{dec_lt}
+use Rattle.std.proofs.Math.Dec.{leb}
+use lib.Count.{ones}
+use Rattle.algebra.specs.All.{some}
+use Rattle.algebra.specs.Flags.{refuted}
+use Rattle.slices.specs.Lengths.{longest_log, longest, is_power}
+use Rattle.slices.specs.LengthLaws.{power_is}
 use Rattle.slices.proofs.is_power.Goals as goal
 
-pub returns-then-long : goal.returns-then-long
-returns-then-long c = sym (too_long c.args.s c.if-long.true)
+agreed : agree_below is_power_of_two is_power (suc longest) ≡ true
+unfolding some is_power ones
+agreed = refl
 
-pub loop-p-init : goal.loop-p-init
-loop-p-init c = (c.if-long.false, doubling_start c.args.s)
+too_long : (s : ℕ) → longest < s → is_power s ≡ false
+too_long s h =
+    refuted (is_power s)
+    (λ t.
+    let (e, l, v) = power_is s t in
+    let most : 2 ^ e ≤ 2 ^ longest_log = pow_mono l in
+    omega arith)
 
-pub overflow_mul-p : goal.overflow_mul-p
-overflow_mul-p c = omega arith
-
-pub loop-p-smaller : goal.loop-p-smaller
-loop-p-smaller c =
-    let positive : 0 < c.loop-p.p =
-    subst (λ (x : ℕ). 0 < x) (sym c.loop-p.invariant.1.value) (pow_pos c.loop-p.invariant.1.exponent) in
-    omega arith
-
-pub loop-p-preserved : goal.loop-p-preserved
-loop-p-preserved c =
-    let inv = c.loop-p.invariant in
-    (inv.0, doubling_turn c.args.s c.loop-p.p inv.0 c.loop-p-test.true inv.1)
+bounded : (s : ℕ) → Dec (longest < s) → (leb s longest && is_power_of_two s) ≡ is_power s
+bounded s (yes long) = ap (λ (b : Bool). b && is_power_of_two s) (lt-leb s longest long) ∙ sym (too_long s long)
+bounded s (no short) =
+    ap (λ (b : Bool). b && is_power_of_two s) (le-leb s longest (omega arith))
+    ∙ agree_below_at is_power_of_two is_power (suc longest) s agreed (omega arith)
 
 pub returns : goal.returns
-returns c = doubling_end c.args.s c.loop-p.p c.loop-p-test.false c.loop-p.invariant.1
+returns c =
+    ap (λ (b : Bool). leb c.args.s longest && b) c.is_power_of_two.ensures ∙ bounded c.args.s (dec_lt longest c.args.s)

@@ -4,7 +4,7 @@ use mathlib.Core.List.{List}
 use Prim.Native.Nat.{ℕ}
 use lib.ListN.{length}
 use Rattle.slices.specs.Bits.{Bits}
-use Rattle.basis.specs.Table.{Form, Completed}
+use Rattle.basis.specs.Table.{Form}
 use Rattle.systematic.proofs.Places.{placed_bits}
 use Rattle.systematic.proofs.carry.Goals as goal
 
@@ -12,15 +12,6 @@ pub complete-requires : goal.complete-requires
 complete-requires c =
     let a = c.args in
     let placed = c.place in (
-      subst (λ (k : ℕ). Form k a.rows.now a.leads.now) (sym placed.auto.word) c.requires.form,
-      subst (λ (x : List ℕ). Bits x) (sym placed.ensures) (placed_bits (length a.word.now) a.leads.now a.message.now c.requires.leads_in_bounds.1),
+      subst (λ (k : ℕ). Form k a.basis.now.rows a.basis.now.leads) (sym placed.auto.word) c.requires.form,
+      subst (λ (x : List ℕ). Bits x) (sym placed.ensures) (placed_bits (length a.word.now) a.basis.now.leads a.message.now c.requires.leads_in_bounds.1),
     )
-
-pub returns : goal.returns
-returns c =
-    let a = c.args in
-    let placed = c.place in
-    let done = c.complete in
-    subst (λ (x : List ℕ). Completed (length a.word.now) a.rows.now a.leads.now x done.new.word) placed.ensures
-    (subst (λ (k : ℕ). Completed k a.rows.now a.leads.now placed.new.word done.new.word) placed.auto.word
-    done.ensures)

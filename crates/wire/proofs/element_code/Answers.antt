@@ -3,5 +3,5 @@ use Rattle.std.proofs.Common.{sym, ap, ◌∙◌}
 use Rattle.wire.specs.Wire.{element_code}
 use Rattle.wire.proofs.element_code.Goals as goal
 
-pub returns-in-Refused : goal.returns-in-Refused
-returns-in-Refused c = c.minus.ensures ∙ ap element_code (sym c.in-Refused.is)
+pub returns-in-Err : goal.returns-in-Err
+returns-in-Err c = c.minus.ensures ∙ ap element_code (sym c.in-Err.is)

@@ -1,13 +1,15 @@
 -- `sameness_code` meets its contract, case by case.
-use Rattle.std.proofs.Common.{sym, ap, ◌∙◌}
+use Rattle.std.proofs.Common.{◌≡◌, refl, sym, ap, ◌∙◌, Bool, true, false, Ok}
+use mir.Val.{bool_byte}
 use Rattle.wire.specs.Wire.{sameness_code}
 use Rattle.wire.proofs.sameness_code.Goals as goal
 
-pub returns-in-Different : goal.returns-in-Different
-returns-in-Different c = ap sameness_code (sym c.in-Different.is)
+truth_as_number : (b : Bool) → bool_byte b ≡ sameness_code (Ok b)
+truth_as_number true = refl
+truth_as_number false = refl
 
-pub returns-in-Same : goal.returns-in-Same
-returns-in-Same c = ap sameness_code (sym c.in-Same.is)
+pub returns-in-Ok : goal.returns-in-Ok
+returns-in-Ok c = truth_as_number c.in-Ok.same ∙ ap sameness_code (sym c.in-Ok.is)
 
-pub returns-in-Refused : goal.returns-in-Refused
-returns-in-Refused c = c.minus.ensures ∙ ap sameness_code (sym c.in-Refused.is)
+pub returns-in-Err : goal.returns-in-Err
+returns-in-Err c = c.minus.ensures ∙ ap sameness_code (sym c.in-Err.is)

@@ -1,11 +1,68 @@
--- `roles` meets its contract: it begins at the whole code.
-use Rattle.columns.specs.Choice.{Choice.whole_code}
+-- `roles` meets its contract: what the beginning refused is refused, and else the columns that it numbered are those of the choice.
+use mathlib.Core.Path.{◌≡◌, refl, ap₂, ◌∙◌, subst}
+use mathlib.Core.Bool.{Bool, true, ◌&&◌}
+use mathlib.Core.List.{List}
+use Prim.Native.Nat.{ℕ}
+use borrow.Author.Tests.{eqb-true}
+use Rattle.algebra.specs.Flags.{both_true}
+use Rattle.refusals.specs.Counted.{Count, Refused}
+use Rattle.refusals.specs.Rules.{Rule}
+use Rattle.refusals.specs.Testing.{handed_on}
+use Rattle.parity.specs.Columns.{roles_of}
+use Rattle.columns.proofs.ListedLaws.{listed_as, listed_refuses, listed_places, listed_accepted, listed_columns, listed_long, listed_passes}
+use Rattle.shortened.specs.Marks.{sent_dimension, mark_rules}
+use Rattle.shortened.specs.Setting.{Setting}
+use Rattle.parity.proofs.OfCode.{accepted_code}
+use Rattle.words.specs.Answers.{roles_rules, roles_fault, roles_answer, roles_after}
+use Rattle.words.proofs.Calls.{front_fits}
 use Rattle.words.proofs.roles.Goals as goal
 
-pub roles-requires : goal.roles-requires
-roles-requires c = record { at = whole_code; listed = c.whole_columns-found.ensures.listed }
+pub returns-in_err-n : goal.returns-in_err-n
+unfolding roles_answer roles_after roles_fault roles_rules
+returns-in_err-n c =
+    let a = c.args in
+    let both = ap₂ (λ (x y : Bool). x && y) c.is_all_places.ensures c.is_all_places-2.ensures in
+    let listed = listed_as c.in_err-n.ensures.listed both in
+    let value = handed_on _ c.from_residual.ensures.1 ∙ listed_refuses listed refl _ Refused _ in
+    let after = listed_refuses listed refl _ (λ i. a.out.now) _ in
+    record {
+      value = subst (λ (s : Setting). c.from_residual.result ≡ roles_answer a.c a.h.now s a.out.now) c.s.view_is value;
+      out_after = subst (λ (s : Setting). a.out.now ≡ roles_after a.c a.h.now s a.out.now) c.s.view_is after;
+    }
+
+pub slice_bounds-columns-end : goal.slice_bounds-columns-end
+slice_bounds-columns-end c =
+    let listed = c.in_ok-n.ensures.listed in
+    front_fits _ (listed_long listed refl (listed_places listed refl))
+
+pub slice_bounds-code-end : goal.slice_bounds-code-end
+slice_bounds-code-end c =
+    let listed = c.in_ok-n.ensures.listed in
+    listed_long listed refl (listed_places listed refl)
+
+pub invariant_of-code : goal.invariant_of-code
+invariant_of-code c =
+    let O = listed_columns c.in_ok-n.ensures.listed refl in record { accepted = accepted_code O.accepted; selected = O.selected }
+
+pub short_roles-requires : goal.short_roles-requires
+short_roles-requires c =
+    let both = ap₂ (λ (x y : Bool). x && y) c.is_all_places.ensures c.is_all_places-2.ensures in
+    let listed = listed_as c.in_ok-n.ensures.listed both in
+    let (marks, out) = both_true _ _ (listed_accepted listed refl).1 in
+    (listed_long listed refl (eqb-true _ _ marks), listed_long listed refl (eqb-true _ _ out))
 
 pub returns : goal.returns
+unfolding roles_answer roles_after roles_fault roles_rules
 returns c =
-    let ended = c.roles.ensures whole_code c.whole_columns-found.ensures.listed in
-    record { value = ended.0; out_after = ended.1 }
+    let a = c.args in
+    let both = ap₂ (λ (x y : Bool). x && y) c.is_all_places.ensures c.is_all_places-2.ensures in
+    let listed = listed_as c.in_ok-n.ensures.listed both in
+    let record { value = count; out_after = roles } = c.short_roles.ensures in
+    let hidden = c.s.inside.hidden.now in
+    let marks : List ℕ → List Rule = λ cols. mark_rules a.c a.h.now cols hidden true in
+    let value = listed_passes listed refl marks Refused (λ cols. Count (sent_dimension a.c a.h.now cols hidden)) count in
+    let after = listed_passes listed refl marks (λ i. a.out.now) (λ cols. roles_of a.c a.h.now cols) roles in
+    record {
+      value = subst (λ (s : Setting). c.short_roles.result ≡ roles_answer a.c a.h.now s a.out.now) c.s.view_is value;
+      out_after = subst (λ (s : Setting). c.short_roles.new.out ≡ roles_after a.c a.h.now s a.out.now) c.s.view_is after;
+    }

@@ -6,4 +6,4 @@ use Rattle.basis.proofs.Building.{Building}
 use Rattle.basis.proofs.elimination.parity_row.Given as goal
 
 abbrev pub invariant-loop-j : goal.invariant-loop-j
-invariant-loop-j l = (l.j-end ≡ length l.cols) × (length l.row ≡ length l.initial.row) × Building (parity_bit l.h l.cols l.i l.b) (length l.cols) l.row l.j
+invariant-loop-j l = (length l.row ≡ length l.initial.row) × Building (parity_bit l.h l.cols l.i l.b) (length l.cols) l.row l.j

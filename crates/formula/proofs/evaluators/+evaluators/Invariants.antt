@@ -6,7 +6,7 @@ use Prim.Native.Nat.{◌+◌, ◌*◌, ◌-◌}
 use lib.ListN.{length, get_or}
 use Rattle.slices.specs.Elements.{Elements}
 use Rattle.formula.specs.declared.evaluators.Cursor.{Cursor}
-use Rattle.formula.specs.Letters.{lending}
+use Rattle.formula.specs.Lending.{lent}
 use Rattle.formula.specs.Evaluated.{sums, products, terms, Held, Ends}
 use Rattle.formula.proofs.evaluators.+evaluators.Given as goal
 
@@ -31,8 +31,8 @@ decreases-sum-loop-value l = length l.text - l.cursor.at
 abbrev pub invariant-sum-loop-value : goal.invariant-sum-loop-value
 invariant-sum-loop-value l =
     (length l.value ≡ length l.initial.value) × Ends products (get_or l.text l.cursor.at 0)
-    × ((start : Cursor) → Held sums l.m (lending l.a l.b l.c l.d) l.brackets l.text start l.initial.cursor l.initial.value
-    → Held sums l.m (lending l.a l.b l.c l.d) l.brackets l.text start l.cursor l.value)
+    × ((start : Cursor) → Held sums l.m (lent l.blocks) l.brackets l.text start l.initial.cursor l.initial.value
+    → Held sums l.m (lent l.blocks) l.brackets l.text start l.cursor l.value)
 
 abbrev pub decreases-product-loop-value : goal.decreases-product-loop-value
 decreases-product-loop-value l = length l.text - l.cursor.at
@@ -40,5 +40,5 @@ decreases-product-loop-value l = length l.text - l.cursor.at
 abbrev pub invariant-product-loop-value : goal.invariant-product-loop-value
 invariant-product-loop-value l =
     (length l.value ≡ length l.initial.value) × Elements l.m l.value × Ends terms (get_or l.text l.cursor.at 0)
-    × ((start : Cursor) → Held products l.m (lending l.a l.b l.c l.d) l.brackets l.text start l.initial.cursor l.initial.value
-    → Held products l.m (lending l.a l.b l.c l.d) l.brackets l.text start l.cursor l.value)
+    × ((start : Cursor) → Held products l.m (lent l.blocks) l.brackets l.text start l.initial.cursor l.initial.value
+    → Held products l.m (lent l.blocks) l.brackets l.text start l.cursor l.value)

@@ -26,27 +26,27 @@ product-requires c =
     let sum_in = subst (λ (x : ℕ). x < 2 ^ m) (sym (c.total-sum.ensures m)) total_in in
     (c.requires.0, sum_in, sum_in)
 
-pub loop-i-init : goal.loop-i-init
-loop-i-init c =
+pub loop-entry-init : goal.loop-entry-init
+loop-entry-init c =
     let g = c.args in
     filling_start (multiples g.m g.value.now c.inverse-factor.result) (length g.value.now) g.value.now refl
 
-pub product-requires-in-loop-i : goal.product-requires-in-loop-i
-product-requires-in-loop-i c =
-    let l = c.loop-i in
-    let old = filling_old l.invariant l.i 0 (le_refl l.i) in (
+pub product-requires-in-loop-entry : goal.product-requires-in-loop-entry
+product-requires-in-loop-entry c =
+    let l = c.loop-entry in
+    let old = filling_old l.invariant l.entry-index 0 (le_refl l.entry-index) in (
       c.requires.0,
-      subst (λ (x : ℕ). x < 2 ^ c.args.m) (sym old) (c.requires.1 l.i c.loop-i-test.true),
+      subst (λ (x : ℕ). x < 2 ^ c.args.m) (sym old) (c.requires.1 l.entry-index c.loop-entry-test.true),
       c.inverse-factor.ensures.1,
     )
 
-pub loop-i-preserved : goal.loop-i-preserved
-loop-i-preserved c =
-    let l = c.loop-i in
+pub loop-entry-preserved : goal.loop-entry-preserved
+loop-entry-preserved c =
+    let l = c.loop-entry in
     let m = c.args.m in
     let factor = c.inverse-factor.result in
-    filling_turn l.invariant c.loop-i-test.true
-    (c.product-in-loop-i.ensures.0 ∙ ap (λ (x : ℕ). (gf m).mul x factor) (filling_old l.invariant l.i 0 (le_refl l.i)))
+    filling_turn l.invariant c.loop-entry-test.true
+    (c.product-in-loop-entry.ensures.0 ∙ ap (λ (x : ℕ). (gf m).mul x factor) (filling_old l.invariant l.entry-index 0 (le_refl l.entry-index)))
 
 pub returns : goal.returns
 unfolding is_invertible block_inverse quotient
@@ -57,6 +57,6 @@ returns c =
     let factor = c.inverse-factor.ensures.0 ∙ ap (gf g.m).inv square in
     record {
       value = ap (λ (x : ℕ). not (eqb x 0)) sum;
-      value_after = filling_end c.loop-i.invariant c.loop-i-test.false
+      value_after = filling_end c.loop-entry.invariant c.loop-entry-test.false
           ∙ ap (λ (x : ℕ). tabulate (length g.value.now) (multiples g.m g.value.now x)) factor;
     }

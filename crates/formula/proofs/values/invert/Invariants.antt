@@ -10,5 +10,5 @@ use Rattle.formula.proofs.values.invert.Given as goal
 abbrev pub multiples : ℕ → List ℕ → ℕ → ℕ → ℕ
 multiples m a factor j = (gf m).mul (get_or a j 0) factor
 
-abbrev pub invariant-loop-i : goal.invariant-loop-i
-invariant-loop-i l = Filling (multiples l.m l.initial.value l.factor) (length l.initial.value) l.initial.value l.value l.i
+abbrev pub invariant-loop-entry : goal.invariant-loop-entry
+invariant-loop-entry l = Filling (multiples l.m l.initial.value l.factor) (length l.initial.value) l.initial.value l.value l.entry-index

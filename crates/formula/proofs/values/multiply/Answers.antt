@@ -22,4 +22,4 @@ aside f kept copied = (filled f.short kept).front ∙ copied
 
 pub returns-clause-value_after : goal.returns-clause-value_after
 returns-clause-value_after c =
-    copied_product c.requires (aside c.requires c.copy.auto.to c.copy.ensures) c.clear.ensures c.add_by_halves.ensures.out_after
+    copied_product c.requires (aside c.requires c.copy_from_slice.auto.self c.copy_from_slice.ensures.after) c.clear.ensures c.add_by_halves.ensures.out_after

@@ -5,78 +5,79 @@ use native.Mathlib.Omega.{arith}
 use Rattle.algebra.specs.Flags.{found_false, found_true}
 use Rattle.slices.specs.BitLaws.{received_bits}
 use Rattle.parity.specs.Selected.{columns_short}
+use Rattle.parity.proofs.OfCode.{on_columns}
 use Rattle.repair.proofs.Decoding.{no_word, code_word_decoded, candidate_refused, candidate_decoded, candidate_bits, candidate_few}
 use Rattle.repair.proofs.decoder.decode.Goals as goal
 
 pub returns-then-not-all_bits : goal.returns-then-not-all_bits
 returns-then-not-all_bits c =
-    no_word c.requires.on_columns.0 c.args.received.now c.args.word.now (found_false c.all_bits.ensures c.if-not-all_bits.true)
+    no_word (on_columns c.args.decoder.now.code) c.args.received.now c.args.word.now (found_false c.all_bits.ensures c.if-not-all_bits.true)
 
 pub is_code_word-requires : goal.is_code_word-requires
 is_code_word-requires c =
-    (c.requires.on_columns.0, received_bits c.requires.received_len.0 (found_true c.all_bits.ensures c.if-not-all_bits.false))
+    received_bits c.requires.0 (found_true c.all_bits.ensures c.if-not-all_bits.false)
 
-pub copy_bits-requires : goal.copy_bits-requires
-copy_bits-requires c =
-    c.requires.received_len.1
-    ∙ sym c.requires.received_len.0
+pub copy_from_slice-requires : goal.copy_from_slice-requires
+copy_from_slice-requires c =
+    c.requires.1
+    ∙ sym c.requires.0
 
 pub returns-then-is_code_word : goal.returns-then-is_code_word
 returns-then-is_code_word c =
     let bits =
-    received_bits c.requires.received_len.0 (found_true c.all_bits.ensures
+    received_bits c.requires.0 (found_true c.all_bits.ensures
     c.if-not-all_bits.false) in
-    code_word_decoded c.requires.on_columns.0 c.args.received.now bits c.copy_bits.ensures
+    code_word_decoded (on_columns c.args.decoder.now.code) c.args.received.now bits c.copy_from_slice.ensures.after
     (sym c.is_code_word.ensures ∙ c.if-is_code_word.true)
 
 pub candidate-turned-requires : goal.candidate-turned-requires
 candidate-turned-requires c =
-    let bits = received_bits c.requires.received_len.0 (found_true c.all_bits.ensures c.if-not-all_bits.false) in
-    (record { code = c.requires.on_columns.0; inverted = c.requires.on_columns.1; bits = bits }, c.requires.received_len.1)
+    let bits = received_bits c.requires.0 (found_true c.all_bits.ensures c.if-not-all_bits.false) in
+    (bits, c.requires.1)
 
 pub overflow_cast-turned : goal.overflow_cast-turned
 overflow_cast-turned c =
     let bits =
-    received_bits c.requires.received_len.0 (found_true c.all_bits.ensures
+    received_bits c.requires.0 (found_true c.all_bits.ensures
     c.if-not-all_bits.false) in
     record {
       fits = omega (
         arith,
-        candidate_few c.requires.on_columns.0 c.args.received.now bits c.candidate-turned.ensures,
+        candidate_few (on_columns c.args.decoder.now.code) c.args.received.now bits c.candidate-turned.ensures,
         columns_short
-            c.requires.on_columns.0,
+            (on_columns c.args.decoder.now.code),
       );
     }
 
-pub returns-then-c-turned : goal.returns-then-c-turned
-returns-then-c-turned c =
+pub returns-then-code-turned : goal.returns-then-code-turned
+returns-then-code-turned c =
     let bits =
-    received_bits c.requires.received_len.0 (found_true c.all_bits.ensures
+    received_bits c.requires.0 (found_true c.all_bits.ensures
     c.if-not-all_bits.false) in
-    candidate_refused c.requires.on_columns.0 c.args.received.now bits c.candidate-turned.ensures (inr c.if-c-turned.true)
+    candidate_refused (on_columns c.args.decoder.now.code) c.args.received.now bits c.candidate-turned.ensures (inr c.if-code-turned.true)
 
 pub is_code_word-requires-2 : goal.is_code_word-requires-2
 is_code_word-requires-2 c =
     let bits =
-    received_bits c.requires.received_len.0 (found_true c.all_bits.ensures
+    received_bits c.requires.0 (found_true c.all_bits.ensures
     c.if-not-all_bits.false) in
-    (c.requires.on_columns.0, candidate_bits c.requires.on_columns.0 c.args.received.now bits c.candidate-turned.ensures)
+    (candidate_bits (on_columns c.args.decoder.now.code) c.args.received.now bits c.candidate-turned.ensures)
 
 pub returns-then-not-is_code_word : goal.returns-then-not-is_code_word
 returns-then-not-is_code_word c =
     let bits =
-    received_bits c.requires.received_len.0 (found_true
+    received_bits c.requires.0 (found_true
     c.all_bits.ensures
     c.if-not-all_bits.false) in
-    candidate_refused c.requires.on_columns.0 c.args.received.now bits c.candidate-turned.ensures
+    candidate_refused (on_columns c.args.decoder.now.code) c.args.received.now bits c.candidate-turned.ensures
     (inl (found_false c.is_code_word-2.ensures c.if-not-is_code_word.true))
 
 pub returns : goal.returns
 returns c =
     let bits =
-    received_bits c.requires.received_len.0 (found_true
+    received_bits c.requires.0 (found_true
     c.all_bits.ensures
     c.if-not-all_bits.false) in
-    candidate_decoded c.requires.on_columns.0 c.args.received.now bits c.candidate-turned.ensures
+    candidate_decoded (on_columns c.args.decoder.now.code) c.args.received.now bits c.candidate-turned.ensures
     (found_true c.is_code_word-2.ensures c.if-not-is_code_word.false)
-    c.if-c-turned.false
+    c.if-code-turned.false

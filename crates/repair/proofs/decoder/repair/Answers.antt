@@ -1,67 +1,43 @@
 -- `decoder::repair` meets its contract: the word that was decoded is copied, or nothing is.
 use mathlib.Core.Path.{sym, ◌∙◌, subst}
 use native.Mathlib.Omega.{arith}
-use lib.ListN.{length, drop, replicate}
-use lib.Seq.{length-take-le, take_at}
-use Rattle.algebra.specs.ListLaws.{front_long, length_front}
-use Rattle.slices.specs.Lengths.{longest}
+use Rattle.slices.proofs.Room.{length_lent, filled}
 use Rattle.parity.specs.Selected.{columns_short}
 use Rattle.repair.specs.declared.Recovery.{Recovery}
 use Rattle.repair.specs.Decoding.{Decoded}
+use Rattle.parity.proofs.OfCode.{on_columns}
 use Rattle.repair.proofs.Decoding.{repaired_copied, refused_left}
 use Rattle.repair.proofs.decoder.repair.Goals as goal
 
 pub slice_bounds-word-end : goal.slice_bounds-word-end
-slice_bounds-word-end c = omega (arith, columns_short c.requires.on_columns.0)
+slice_bounds-word-end c = omega (arith, columns_short (on_columns c.args.decoder.now.code))
 
 pub slice_bounds-decode-end : goal.slice_bounds-decode-end
-slice_bounds-decode-end c =
-    sym
-    (length-take-le (length c.args.cols.now) (replicate longest 0) (columns_short c.requires.on_columns.0))
+slice_bounds-decode-end c = sym (length_lent (columns_short (on_columns c.args.decoder.now.code)))
 
 pub decode-recovery-requires : goal.decode-recovery-requires
 decode-recovery-requires c =
-    record {
-      on_columns = c.requires.on_columns;
-      received_len = (c.requires.received_len.0, length-take-le (length c.args.cols.now) (replicate longest 0) (columns_short c.requires.on_columns.0));
-    }
+    (c.requires.0, length_lent (columns_short (on_columns c.args.decoder.now.code)))
 
 pub slice_bounds-word-end-in-Repaired : goal.slice_bounds-word-end-in-Repaired
-slice_bounds-word-end-in-Repaired c =
-    let n = length c.args.cols.now in
-    let call = c.decode-recovery in
-    front_long call.new.word (drop n (replicate longest 0))
-    (call.auto.word ∙ length-take-le n (replicate longest 0) (columns_short c.requires.on_columns.0))
+slice_bounds-word-end-in-Repaired c = (filled (columns_short (on_columns c.args.decoder.now.code)) c.decode-recovery.auto.word).fits
 
-pub slice_bounds-copy_bits-end : goal.slice_bounds-copy_bits-end
-slice_bounds-copy_bits-end c =
-    let n = length c.args.cols.now in
-    let call = c.decode-recovery in
-    let long = call.auto.word ∙ length-take-le n (replicate longest 0) (columns_short c.requires.on_columns.0) in
-    sym (length_front call.new.word (drop n (replicate longest 0)) long)
+pub slice_bounds-copy_from_slice-end : goal.slice_bounds-copy_from_slice-end
+slice_bounds-copy_from_slice-end c = sym (filled (columns_short (on_columns c.args.decoder.now.code)) c.decode-recovery.auto.word).length_front
 
-pub copy_bits-requires : goal.copy_bits-requires
-copy_bits-requires c =
-    let n = length c.args.cols.now in
-    let call = c.decode-recovery in
-    let long = call.auto.word ∙ length-take-le n (replicate longest 0) (columns_short c.requires.on_columns.0) in
-    c.requires.received_len.1 ∙ sym (length_front call.new.word (drop n (replicate longest 0)) long)
+pub copy_from_slice-requires : goal.copy_from_slice-requires
+copy_from_slice-requires c =
+    c.requires.1 ∙ sym (filled (columns_short (on_columns c.args.decoder.now.code)) c.decode-recovery.auto.word).length_front
 
 pub returns-in-Repaired : goal.returns-in-Repaired
 returns-in-Repaired c =
     let a = c.args in
-    let n = length a.cols.now in
     let call = c.decode-recovery in
-    let word = call.new.word in
-    let long = call.auto.word ∙ length-take-le n (replicate longest 0) (columns_short c.requires.on_columns.0) in
     let D =
-    subst (λ (r : Recovery). Decoded a.c a.h.now a.cols.now a.received.now r word)
+    subst (λ (r : Recovery). Decoded a.decoder.now.code.c a.decoder.now.code.h.now a.decoder.now.code.cols.now a.received.now r call.new.word)
     c.in-Repaired.is call.ensures in
-    record {
-      value = call.ensures.answer_is;
-      repaired_after = repaired_copied D a.repaired.now
-          (c.copy_bits.ensures ∙ take_at word (drop n (replicate longest 0)) n long);
-    }
+    let copied = c.copy_from_slice.ensures.after ∙ (filled (columns_short (on_columns c.args.decoder.now.code)) call.auto.word).front in
+    record { value = call.ensures.answer_is; repaired_after = repaired_copied D a.repaired.now copied }
 
 pub returns-in_default : goal.returns-in_default
 returns-in_default c =
@@ -69,6 +45,6 @@ returns-in_default c =
     let call = c.decode-recovery in
     record {
       value = call.ensures.answer_is;
-      repaired_after = refused_left (subst (λ (r : Recovery). Decoded a.c a.h.now a.cols.now a.received.now r call.new.word)
+      repaired_after = refused_left (subst (λ (r : Recovery). Decoded a.decoder.now.code.c a.decoder.now.code.h.now a.decoder.now.code.cols.now a.received.now r call.new.word)
           c.in_default.is call.ensures) a.repaired.now;
     }

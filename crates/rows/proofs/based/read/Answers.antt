@@ -11,8 +11,9 @@ use Rattle.rows.proofs.based.read.Goals as goal
 pub returns-in_default : goal.returns-in_default
 returns-in_default c =
     let a = c.args in
-    not_repaired a.c a.h.now a.cols.now c.requires.message_columns.0.number a.received.now c.requires.message_columns.1 c.decode-recovery.ensures
-    c.in_default.is c.refusal.ensures
+    let code = a.decoder.now.code in
+    not_repaired code.c code.h.now code.cols.now c.requires.message_columns.0.number a.received.now c.requires.message_columns.1
+    c.decode-recovery.ensures (c.in_default.is ∙ c.in-Refused.is)
 
 pub take_out-requires : goal.take_out-requires
 take_out-requires c =
@@ -24,18 +25,20 @@ take_out-requires c =
 pub returns-then-not-is_row_message : goal.returns-then-not-is_row_message
 returns-then-not-is_row_message c =
     let a = c.args in
+    let code = a.decoder.now.code in
     let call = c.decode-recovery in
     let said =
     taken_out c.requires.message_columns.0 call.new.word c.take_out.ensures (call.auto.word ∙ c.requires.received_len.1) in
-    no_row a.c a.h.now a.cols.now c.requires.message_columns.0.number a.received.now c.requires.message_columns.1 call.ensures
+    no_row code.c code.h.now code.cols.now c.requires.message_columns.0.number a.received.now c.requires.message_columns.1 call.ensures
     c.in-Repaired.is said (found_false c.is_row_message.ensures c.if-not-is_row_message.true)
 
 pub returns : goal.returns
 returns c =
     let a = c.args in
+    let code = a.decoder.now.code in
     let call = c.decode-recovery in
     let said =
     taken_out c.requires.message_columns.0 call.new.word c.take_out.ensures (call.auto.word ∙ c.requires.received_len.1) in
-    row_found a.c a.h.now a.cols.now c.requires.message_columns.0.number a.received.now c.requires.message_columns.1 call.ensures
+    row_found code.c code.h.now code.cols.now c.requires.message_columns.0.number a.received.now c.requires.message_columns.1 call.ensures
     c.in-Repaired.is said
     (found_true c.is_row_message.ensures c.if-not-is_row_message.false) c.row_in.ensures

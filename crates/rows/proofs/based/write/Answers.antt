@@ -16,8 +16,8 @@ carry-requires c =
     record {
       form = c.requires.0;
       leads_in_bounds = (
-        subst (λ (x : List ℕ). free_count (length a.word.now) a.leads.now ≤ length x) (sym e)
-            (subst (λ (i : ℕ). free_count (length a.word.now) a.leads.now ≤ i) (sym (length_message k a.gear a.lamp)) c.requires.1),
+        subst (λ (x : List ℕ). free_count (length a.word.now) a.basis.now.leads ≤ length x) (sym e)
+            (subst (λ (i : ℕ). free_count (length a.word.now) a.basis.now.leads ≤ i) (sym (length_message k a.gear a.lamp)) c.requires.1),
         subst Bits (sym e) (message_bits k a.gear a.lamp),
       );
     }
@@ -26,6 +26,6 @@ pub returns : goal.returns
 returns c =
     let a = c.args in
     let carry = c.carry in
-    subst (λ (x : List ℕ). Carried (length a.word.now) a.rows.now a.leads.now x carry.new.word)
+    subst (λ (x : List ℕ). Carried (length a.word.now) a.basis.now.rows a.basis.now.leads x carry.new.word)
     c.place_row.ensures
     carry.ensures

@@ -1,27 +1,33 @@
--- `faults::are_words` meets its contract: it scans the senders.
-use mathlib.Core.Path.{refl}
+-- `faults::are_words` meets its contract: it tests the senders.
+use mathlib.Core.Path.{sym, ap, ◌∙◌}
+use mathlib.Core.Bool.{Bool, not, ◌||◌}
+use Prim.Native.Nat.{ℕ}
 use native.Mathlib.Omega.{arith}
+use native.Mathlib.Nat.{zero-add}
+use borrow.Author.Rules.{rules}
+use borrow.Author.Tests.{tests}
+use lib.Dec.{eqb}
 use lib.ListN.{length}
-use Rattle.algebra.specs.Flags.{found_false, found_true}
-use Rattle.algebra.specs.Scanning.{scanning_start, scanning_turn, scanning_fails, scanning_end}
+use mathlib.Core.Path.{◌≡◌, refl}
+use Rattle.std.proofs.lemmas.Iterator.{YieldsList-from_range, serves_from_Range}
+use Rattle.std.proofs.lemmas.Iterator.Search.{all_from_yields_List}
+use Rattle.algebra.specs.All.{all}
+use Rattle.algebra.specs.AllLaws.{all_is, all_fails}
+use Rattle.algebra.specs.Lists.{entry_of}
+use Rattle.algebra.specs.Parts.{part}
+use Rattle.slices.specs.Bits.{all_bits}
 use Rattle.scheduler.specs.State.{all_words}
+use Rattle.slices.proofs.Entries.{tests_below}
 use Rattle.scheduler.proofs.faults.are_words.Goals as goal
 
-pub loop-p-init : goal.loop-p-init
-loop-p-init c = (refl, scanning_start (length c.args.waiting.now) _)
-
-pub is_word-requires : goal.is_word-requires
-is_word-requires c = (c.loop-p-test.true, c.requires)
-
-pub returns-then-not-is_word : goal.returns-then-not-is_word
-unfolding all_words
-returns-then-not-is_word c =
-    scanning_fails c.loop-p.invariant.1 c.loop-p-test.true (found_false c.is_word.ensures c.if-not-is_word.true)
-
-pub loop-p-preserved : goal.loop-p-preserved
-loop-p-preserved c =
-    (refl, scanning_turn c.loop-p.invariant.1 c.loop-p-test.true (found_true c.is_word.ensures c.if-not-is_word.false))
+pub all-requires-clause-callable : goal.all-requires-clause-callable
+all-requires-clause-callable c = serves_from_Range (λ x q k. search (rules, tests)) (λ x low high. search rules)
 
 pub returns : goal.returns
 unfolding all_words
-returns c = scanning_end c.loop-p.invariant.1 (omega arith)
+returns c =
+    let a = c.args in
+    let S = length a.waiting.now in
+    let word = λ (p : ℕ). not (eqb (entry_of a.waiting.now p) 1) || all_bits (part a.n a.words.now p) in
+    all_from_yields_List word _ _ c.all.result c.all.ensures.ran (YieldsList-from_range 0 S S (search rules) (omega arith)) (λ x b q k. search (rules, tests))
+    ∙ tests_below S word

@@ -1,5 +1,4 @@
 -- `dismiss` meets its contract, sender by sender.
-use mathlib.Core.Path.{◌≡◌}
 use lib.ListN.{length}
 use Rattle.algebra.specs.Filling.{Filling}
 use Rattle.scheduler.proofs.Handing.{kept_mark}
@@ -7,4 +6,4 @@ use Rattle.scheduler.proofs.rounds.dismiss.Given as goal
 
 abbrev pub invariant-loop-p : goal.invariant-loop-p
 invariant-loop-p l =
-    (l.p-end ≡ length l.initial.waiting) × Filling (kept_mark l.marks l.initial.waiting) (length l.initial.waiting) l.initial.waiting l.waiting l.p
+    Filling (kept_mark l.marks l.initial.waiting) (length l.initial.waiting) l.initial.waiting l.waiting l.p

@@ -1,31 +1,28 @@
 -- `hand_one` meets its contract: nothing, a code word as it is, or what repair finds.
-use mathlib.Core.Path.{sym, ◌∙◌}
+use mathlib.Core.Path.{sym, ap, ◌∙◌}
+use Rattle.turns.specs.Marks.{stays}
+use Rattle.parity.proofs.OfCode.{on_columns}
 use Rattle.scheduler.proofs.Handing.{none_handed, some_handed, code_word_handed}
 use Rattle.scheduler.proofs.rounds.hand_one.Goals as goal
 
-pub returns-then-mark-eq-STAYS : goal.returns-then-mark-eq-STAYS
-returns-then-mark-eq-STAYS c =
-    let a = c.args in
-    let ended = none_handed a.c a.h.now a.cols.now a.word.now a.handed.now c.if-mark-eq-STAYS.true in
+pub returns-in-Stays : goal.returns-in-Stays
+returns-in-Stays c =
+    let ended = none_handed _ _ _ _ _ _ (ap stays c.in-Stays.is) in
     record { value = ended.0; handed_after = ended.1 }
 
-pub copy_bits-requires : goal.copy_bits-requires
-copy_bits-requires c =
+pub copy_from_slice-requires : goal.copy_from_slice-requires
+copy_from_slice-requires c =
     let s = c.requires in s.word_len.1 ∙ sym s.word_len.0
 
-pub returns-then-whole : goal.returns-then-whole
-returns-then-whole c =
-    let a = c.args in
-    let (bits, is) = c.requires.bits c.if-whole.true in
-    let ended = code_word_handed a.c a.h.now a.cols.now a.word.now a.handed.now c.requires.on_columns.0 bits is
-    c.if-mark-eq-STAYS.false
-    c.copy_bits.ensures in
+pub returns-in-CodeWord : goal.returns-in-CodeWord
+returns-in-CodeWord c =
+    let (bits, is) = c.requires.bits c.in-CodeWord.is in
+    let ended = code_word_handed _ _ _ _ _ _ (on_columns c.args.decoder.now.code) bits is
+    (ap stays c.in-CodeWord.is) c.copy_from_slice.ensures.after in
     record { value = ended.0; handed_after = ended.1 }
 
-pub returns : goal.returns
-returns c =
-    let a = c.args in
+pub returns-in-Other : goal.returns-in-Other
+returns-in-Other c =
     let record { value = answered; repaired_after = copied } = c.repair.ensures in
-    let ended = some_handed a.c a.h.now a.cols.now a.word.now a.handed.now c.if-mark-eq-STAYS.false
-    c.recovery_code.ensures answered copied in
+    let ended = some_handed _ _ _ _ _ _ (ap stays c.in-Other.is) c.recovery_code.ensures answered copied in
     record { value = ended.0; handed_after = ended.1 }

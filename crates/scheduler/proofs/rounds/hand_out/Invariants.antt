@@ -1,15 +1,15 @@
 -- `hand_out` meets its contract, sender by sender.
-use mathlib.Core.Path.{◌≡◌}
 use lib.ListN.{length}
 use Rattle.algebra.specs.Filling.{Filling}
-use Rattle.algebra.specs.Lists.{entry_of}
+use Rattle.turns.specs.Marks.{mark_in}
 use Rattle.algebra.specs.Parts.{part}
 use Rattle.algebra.specs.PartLaws.{Replacing}
+use Rattle.parity.specs.OfCode.{of_code}
 use Rattle.scheduler.specs.Parts.{answer_of, handed_of}
 use Rattle.scheduler.proofs.rounds.hand_out.Given as goal
 
 abbrev pub invariant-loop-p : goal.invariant-loop-p
 invariant-loop-p l =
-    (l.p-end ≡ length l.marks) × Filling (λ i. answer_of l.c l.h l.cols (entry_of l.marks i) (part (length l.cols) l.words i)) (length l.marks) l.initial.answers l.answers l.p
-    × Replacing (length l.cols) (λ i. handed_of l.c l.h l.cols (entry_of l.marks i) (part (length l.cols) l.words i) (part (length l.cols) l.initial.handed i)) (length l.marks)
+    Filling (λ i. of_code answer_of l.decoder.code (mark_in l.marks i) (part (length l.decoder.code.cols.now) l.words i)) (length l.marks) l.initial.answers l.answers l.p
+    × Replacing (length l.decoder.code.cols.now) (λ i. of_code handed_of l.decoder.code (mark_in l.marks i) (part (length l.decoder.code.cols.now) l.words i) (part (length l.decoder.code.cols.now) l.initial.handed i)) (length l.marks)
     l.initial.handed l.handed l.p

@@ -5,7 +5,7 @@ use Prim.Native.Nat.{ℕ, zero, suc, ◌<◌}
 use native.Mathlib.Omega.{arith}
 use lib.Dec.{eqb}
 use lib.ListN.{length}
-use Rattle.algebra.specs.Filling.{filling_start, filling_index, filling_turn, filling_length, filling_old, filling_end}
+use Rattle.algebra.specs.Filling.{filling_start, filling_turn, filling_old, filling_end}
 use Rattle.algebra.specs.Xor.{◌⊕◌}
 use Rattle.nearest.specs.Turned.{turned}
 use Rattle.simulation.proofs.steps.turn.Goals as goal
@@ -17,27 +17,16 @@ mark-is (suc zero) l = refl
 mark-is (suc (suc x)) l = absurd (omega arith)
 
 pub loop-j-init : goal.loop-j-init
-loop-j-init c = (refl, filling_start _ (length c.args.word.now) c.args.word.now refl)
-
-pub bounds-word-j : goal.bounds-word-j
-bounds-word-j c = filling_index c.loop-j.invariant.1 (omega arith)
-
-pub bounds-word-j-in-loop-j : goal.bounds-word-j-in-loop-j
-bounds-word-j-in-loop-j c = filling_index c.loop-j.invariant.1 (omega arith)
+loop-j-init c = filling_start _ (length c.args.word.now) c.args.word.now refl
 
 pub loop-j-preserved : goal.loop-j-preserved
 unfolding ◌⊕◌
 loop-j-preserved c =
     let l = c.loop-j in
-    let F = l.invariant.1 in
-    let inside : l.j < length c.args.marks.now = omega (arith, c.requires.1) in (
-      refl,
-      filling_turn F (omega arith) (ap₂ (λ (x y : ℕ). x ⊕ y) (filling_old F l.j 0 (omega arith)) (mark-is _ (c.requires.0 l.j inside))),
-    )
-
-pub shape_of-word : goal.shape_of-word
-shape_of-word c = filling_length c.loop-j.invariant.1
+    let inside : l.j < length c.args.marks.now = omega (arith, c.loop-j-test.true, c.requires.1) in
+    filling_turn l.invariant c.loop-j-test.true
+    (ap₂ (λ (x y : ℕ). x ⊕ y) (filling_old l.invariant l.j 0 (omega arith)) (mark-is _ (c.requires.0 l.j inside)))
 
 pub returns : goal.returns
 unfolding turned
-returns c = filling_end c.loop-j.invariant.1 (omega arith)
+returns c = filling_end c.loop-j.invariant c.loop-j-test.false

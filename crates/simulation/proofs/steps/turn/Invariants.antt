@@ -1,5 +1,4 @@
 -- `turn` meets its contract, place by place.
-use mathlib.Core.Path.{◌≡◌}
 use mathlib.Core.Bool.{cond}
 use lib.ListN.{length}
 use Rattle.algebra.specs.Filling.{Filling}
@@ -10,4 +9,4 @@ use Rattle.simulation.proofs.steps.turn.Given as goal
 
 abbrev pub invariant-loop-j : goal.invariant-loop-j
 invariant-loop-j l =
-    (l.j-end ≡ length l.initial.word) × Filling (λ i. entry_of l.initial.word i ⊕ cond (is_marked l.marks i) 1 0) (length l.initial.word) l.initial.word l.word l.j
+    Filling (λ i. entry_of l.initial.word i ⊕ cond (is_marked l.marks i) 1 0) (length l.initial.word) l.initial.word l.word l.j

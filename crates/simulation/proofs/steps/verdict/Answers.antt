@@ -19,15 +19,15 @@ compared gear lamp {row = row} e shown-is t =
     ap (λ (b : Bool). cond b Right Wrong) (sym t ∙ ap (λ (x : ℕ). eqb row.gear gear && eqb x lamp) shown-is)
     ∙ ap (verdict_of gear lamp) (sym e)
 
-pub returns-then-read_gear-gear : goal.returns-then-read_gear-gear
-returns-then-read_gear-gear c =
+pub returns-then-row-gear : goal.returns-then-row-gear
+returns-then-row-gear c =
     let a = c.args in
-    compared a.gear a.lamp c.in-Read.is c.lamp_number.ensures.0 c.if-read_gear-gear.true
+    compared a.gear a.lamp c.in-Read.is c.from.ensures.0 c.if-row-gear.true
 
-pub returns-else-read_gear-gear : goal.returns-else-read_gear-gear
-returns-else-read_gear-gear c =
+pub returns-else-row-gear : goal.returns-else-row-gear
+returns-else-row-gear c =
     let a = c.args in
-    compared a.gear a.lamp c.in-Read.is c.lamp_number.ensures.0 c.if-read_gear-gear.false
+    compared a.gear a.lamp c.in-Read.is c.from.ensures.0 c.if-row-gear.false
 
 pub returns-in-Refused : goal.returns-in-Refused
 unfolding verdict_of

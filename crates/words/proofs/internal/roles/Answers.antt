@@ -6,20 +6,17 @@ use mathlib.Core.Bool.{cond}
 use Rattle.algebra.specs.Tabulate.{tabulate}
 use Rattle.basis.specs.Table.{free_at}
 use Rattle.messages.specs.CodeBasis.{roles_are, fewer}
+use Rattle.parity.proofs.OfCode.{on_columns}
 use Rattle.parity.specs.Selected.{columns_short}
 use Rattle.words.proofs.internal.roles.Goals as goal
-
-pub message_columns-k-requires : goal.message_columns-k-requires
-message_columns-k-requires c =
-    let O = c.requires.0 in (O, omega (arith, columns_short O))
 
 pub roles-requires : goal.roles-requires
 roles-requires c =
     omega (
       arith,
       columns_short
-          c.requires.0,
-      c.requires.1,
+          (on_columns c.args.code.now),
+      c.requires,
     )
 
 pub overflow_cast-result : goal.overflow_cast-result
@@ -29,7 +26,7 @@ overflow_cast-result c =
         arith,
         fewer c.message_columns-k.ensures,
         columns_short
-            c.requires.0,
+            (on_columns c.args.code.now),
       );
     }
 
@@ -38,6 +35,6 @@ returns c =
     let found = c.message_columns-k in
     record {
       value = found.ensures.number;
-      out_after = c.roles.ensures ∙ ap (λ (k : ℕ). tabulate k (λ p. cond (free_at found.new.leads p) 1 0))
-          c.requires.1 ∙ sym (roles_are found.ensures);
+      out_after = c.roles.ensures ∙ ap (λ (k : ℕ). tabulate k (λ p. cond (free_at found.new.basis.leads p) 1 0))
+          c.requires ∙ sym (roles_are found.ensures);
     }

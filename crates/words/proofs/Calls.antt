@@ -1,0 +1,27 @@
+-- What calls on words share: columns at the front of a list, and a message that is refused.
+use Rattle.std.specs.Prelude.{◌≡◌, Bool, List, ℕ, ◌≤◌, length, take}
+use Rattle.std.specs.Result.{IsErrAnd}
+use Rattle.std.proofs.Common.{sym, subst, arith}
+use Rattle.std.proofs.lemmas.List.{length-take}
+use Rattle.refusals.specs.Ending.{Ended, ended_refused}
+use Rattle.refusals.specs.Outcome.{Outcome, Refused, tested}
+use Rattle.refusals.specs.Rules.{fault}
+use Rattle.refusals.specs.Testing.{tested_due, handed_on}
+use Rattle.params.specs.declared.Parameters.{Parameters}
+use Rattle.parity.specs.Columns.{dimension}
+use Rattle.messages.specs.CodeBasis.{MessageColumns}
+use Rattle.messages.specs.MessageRules.{message_rules}
+use Rattle.messages.proofs.Meaning.{message_due}
+
+-- a list whose front is so long is no shorter
+pub front_fits : {k : ℕ} (l : List ℕ) → k ≡ length (take k l) → k ≤ length l
+front_fits {k} l e = omega (arith, e, length-take k l)
+
+-- a call whose message is refused ends by the number that is due for the dimension, with its buffer as it was
+pub message_refused : {c : Parameters} {h cols leads : List ℕ} {k : ℕ} → MessageColumns c h cols leads k → {i : ℕ} (long : ℕ) (bits : Bool)
+    (old value : List ℕ) (r : Outcome) → Refused i ≡ tested (fault (message_rules k long bits)) → IsErrAnd r (λ y. y ≡ i)
+    → Ended r (message_rules (dimension c h cols) long bits) old value old
+message_refused {c} {h} {cols} M long bits old value r is e =
+    let (ne, due) = tested_due is in
+    subst (λ (x : Outcome). Ended x (message_rules (dimension c h cols) long bits) old value old) (sym (handed_on r e))
+    (ended_refused (message_rules (dimension c h cols) long bits) old value (message_due M long bits due) ne)
