@@ -108,6 +108,7 @@ pub fn is_row_message(message: &[u8]) -> bool
     is_row(gear_in(message), lamp_in(message)) & no_further_bits(message)
 }
 
+// The lamp that a message says, whatever it says: no TryFrom, which could fail.
 fn lamp_of(number: u32) -> Lamp
     ensures { result ≡ lamp_of number }
 {

@@ -17,14 +17,15 @@ use Rattle.algebra.specs.Locator.Pass.{Pivot, Pivot.smaller, Pivot.remaining, Ra
 use Rattle.field.specs.Gf.{Width, gf}
 use Rattle.field.proofs.GfLaws.{gf_laws}
 use Rattle.algebra.specs.Lists.{entry_of}
+use Rattle.locator.specs.declared.Polynomial.{Polynomial}
 use Rattle.locator.specs.Coefficients.{halves_of, Half, Pair, Combined, Lifted, Turned, Choice, Choice.first, Choice.second, Advanced, Constant, Started, Passed, Located}
 use Rattle.locator.proofs.Loops.{constant_value}
 
 pub half_weaken : {m n k : ℕ} {l : List ℕ} → n ≤ k → Half m n l → Half m k l
 half_weaken h H = record { long = H.long; inside = H.inside; ends = λ j g. H.ends j (le_trans h g) }
 
-pub pair_weaken : {m d e : ℕ} {even odd : List ℕ} → d ≤ e → Pair m d even odd → Pair m e even odd
-pair_weaken {d} {e} h P = record { even_half = half_weaken even_grows P.even_half; odd_half = half_weaken odd_grows P.odd_half }
+pub pair_weaken : {m d e : ℕ} {P : Polynomial} → d ≤ e → Pair m d P → Pair m e P
+pair_weaken {d} {e} h H = record { even_half = half_weaken even_grows H.even_half; odd_half = half_weaken odd_grows H.odd_half }
   where
     even_grows : d / 2 + 1 ≤ e / 2 + 1
     even_grows = omega arith
@@ -48,8 +49,9 @@ module _ {m a b p q : ℕ} (W : Width m) (choice : Pivot (gf m) a b p q) {l : Li
   pub spare_odd : Half m ((p + 1) / 2) l → (k : ℕ) → (q + 1) / 2 ≤ k → (gf m).mul b (entry_of l k) ≡ 0
   spare_odd H k h = spare H (λ g. omega arith)
 
-pub turned : {m r a b p q : ℕ} {pe po oe oo pe' po' oe' oo' : List ℕ} → Combined m (q / 2 + 1) a b pe oe oe' → Combined m ((q + 1) / 2) a b po oo oo'
-    → Lifted m (p / 2 + 1) r pe pe' → Lifted m ((p + 1) / 2) r po po' → Turned m r a b p q pe po oe oo pe' po' oe' oo'
+pub turned : {m r a b p q : ℕ} {P Q P' Q' : Polynomial} → Combined m (q / 2 + 1) a b P.even Q.even Q'.even
+    → Combined m ((q + 1) / 2) a b P.odd Q.odd Q'.odd → Lifted m (p / 2 + 1) r P.even P'.even → Lifted m ((p + 1) / 2) r P.odd P'.odd
+    → Turned m r a b p q P Q P' Q'
 turned {p} ce co le lo =
     record {
       pivot = record { even_half = half_weaken even_grows le.shape; odd_half = half_weaken odd_grows lo.shape };
@@ -91,59 +93,38 @@ pub chosen_second : {m a b p q : ℕ} {r : Bool} → Choice m a b p q r → r �
 chosen_second (first h) e = absurd (false≢true (sym e))
 chosen_second (second h) e = h
 
-module _ {m z s p q r a b : ℕ} {e o e2 o2 e' o' e2' o2' : List ℕ} (er : r ≡ (gf m).mul z z) (ea : a ≡ discrepancy (gf m) z s (halves_of (gf m) e o))
-    (eb : b ≡ discrepancy (gf m) z s (halves_of (gf m) e2 o2)) where
-  pub advanced_first : Pivot (gf m) a b p q → Turned m r a b p q e o e2 o2 e' o' e2' o2' → Advanced m z s p q e o e2 o2 (p + 2) e' o' e2' o2'
+abbrev halves : ℕ → Polynomial → Halves ℕ
+halves m = halves_of (gf m)
+
+module _ {m z s p q r a b : ℕ} {P Q P' Q' : Polynomial} (er : r ≡ (gf m).mul z z) (ea : a ≡ discrepancy (gf m) z s (halves m P))
+    (eb : b ≡ discrepancy (gf m) z s (halves m Q)) where
+  pub advanced_first : Pivot (gf m) a b p q → Turned m r a b p q P Q P' Q' → Advanced m z s p q P Q (p + 2) P' Q'
   advanced_first choice T =
       record {
         first = T.pivot;
-        second = subst (λ (d : ℕ). Pair m d e2' o2') kept T.other;
+        second = subst (λ (d : ℕ). Pair m d Q') kept T.other;
         low = omega arith;
         step =
-            subst (λ (d : ℕ). Step (gf m) z s P p Q q P' (p + 2) Q' d) kept
-            (first_pivot (subst₂ (λ (x y : ℕ). Pivot (gf m) x y p q) ea eb choice) (subst (λ (x : ℕ). Raised (gf m) x P P') er T.raised)
-            (subst₂ (λ (x y : ℕ). Reduced (gf m) x y P Q Q') ea eb T.reduced));
+            subst (λ (d : ℕ). Step (gf m) z s (halves m P) p (halves m Q) q (halves m P') (p + 2) (halves m Q') d) kept
+            (first_pivot (subst₂ (λ (x y : ℕ). Pivot (gf m) x y p q) ea eb choice) (subst (λ (x : ℕ). Raised (gf m) x (halves m P) (halves m P')) er T.raised)
+            (subst₂ (λ (x y : ℕ). Reduced (gf m) x y (halves m P) (halves m Q) (halves m Q')) ea eb T.reduced));
       }
     where
-      P : Halves ℕ
-      P = halves_of (gf m) e o
-
-      Q : Halves ℕ
-      Q = halves_of (gf m) e2 o2
-
-      P' : Halves ℕ
-      P' = halves_of (gf m) e' o'
-
-      Q' : Halves ℕ
-      Q' = halves_of (gf m) e2' o2'
-
       kept : q ≡ p + q + 2 - (p + 2)
       kept = omega arith
 
-  pub advanced_second : Pivot (gf m) b a q p → Turned m r b a q p e2 o2 e o e2' o2' e' o' → Advanced m z s p q e o e2 o2 p e' o' e2' o2'
+  pub advanced_second : Pivot (gf m) b a q p → Turned m r b a q p Q P Q' P' → Advanced m z s p q P Q p P' Q'
   advanced_second choice T =
       record {
         first = T.other;
-        second = subst (λ (d : ℕ). Pair m d e2' o2') grown T.pivot;
+        second = subst (λ (d : ℕ). Pair m d Q') grown T.pivot;
         low = omega arith;
         step =
-            subst (λ (d : ℕ). Step (gf m) z s P p Q q P' p Q' d) grown
-            (second_pivot (subst₂ (λ (x y : ℕ). Pivot (gf m) x y q p) eb ea choice) (subst (λ (x : ℕ). Raised (gf m) x Q Q') er T.raised)
-            (subst₂ (λ (x y : ℕ). Reduced (gf m) x y Q P P') eb ea T.reduced));
+            subst (λ (d : ℕ). Step (gf m) z s (halves m P) p (halves m Q) q (halves m P') p (halves m Q') d) grown
+            (second_pivot (subst₂ (λ (x y : ℕ). Pivot (gf m) x y q p) eb ea choice) (subst (λ (x : ℕ). Raised (gf m) x (halves m Q) (halves m Q')) er T.raised)
+            (subst₂ (λ (x y : ℕ). Reduced (gf m) x y (halves m Q) (halves m P) (halves m P')) eb ea T.reduced));
       }
     where
-      P : Halves ℕ
-      P = halves_of (gf m) e o
-
-      Q : Halves ℕ
-      Q = halves_of (gf m) e2 o2
-
-      P' : Halves ℕ
-      P' = halves_of (gf m) e' o'
-
-      Q' : Halves ℕ
-      Q' = halves_of (gf m) e2' o2'
-
       grown : q + 2 ≡ p + q + 2 - p
       grown = omega arith
 
@@ -163,7 +144,7 @@ nought_half {m} {n} {l} C = record { long = C.long; inside = (constant_half (pow
     all zero = C.lowest
     all (suc k) = C.ends (suc k) (omega arith)
 
-pub passed_none : {m : ℕ} (W : Width m) (roots syndrome : List ℕ) {e o e2 o2 : List ℕ} → Started e o e2 o2 → Passed m roots syndrome 0 0 e o e2 o2
+pub passed_none : {m : ℕ} (W : Width m) (roots syndrome : List ℕ) {P Q : Polynomial} → Started P Q → Passed m roots syndrome 0 0 P Q
 passed_none {m} W roots syndrome S =
     record {
       low = omega arith;
@@ -180,52 +161,52 @@ passed_none {m} W roots syndrome S =
     }
 
 pub passed_more : {m : ℕ} (W : Width m) {roots syndrome : List ℕ} → Points (gf m) (length roots) (entry_of roots) → {i p p' : ℕ}
-    {e o e2 o2 e' o' e2' o2' : List ℕ} → Passed m roots syndrome i p e o e2 o2 → i < length roots
-    → Advanced m (entry_of roots i) (entry_of syndrome i) p (2 * i + 1 - p) e o e2 o2 p' e' o' e2' o2'
-    → Passed m roots syndrome (i + 1) p' e' o' e2' o2'
-passed_more {m} W {roots} {syndrome} R {i} {p} {p'} {e} {o} {e2} {o2} {e'} {o'} {e2'} {o2'} G l A =
+    {P Q P' Q' : Polynomial} → Passed m roots syndrome i p P Q → i < length roots
+    → Advanced m (entry_of roots i) (entry_of syndrome i) p (2 * i + 1 - p) P Q p' P' Q'
+    → Passed m roots syndrome (i + 1) p' P' Q'
+passed_more {m} W {roots} {syndrome} R {i} {p} {p'} {P} {Q} {P'} {Q'} G l A =
     record {
       low = omega (arith, G.low, A.low);
       first = A.first;
-      second = subst (λ (d : ℕ). Pair m d e2' o2') left A.second;
+      second = subst (λ (d : ℕ). Pair m d Q') left A.second;
       invariant =
           pass_step (gf m) (gf_laws m W) R l G.invariant
           (subst
           (λ (d : ℕ).
-          Step (gf m) (entry_of roots i) (entry_of syndrome i) (halves_of (gf m) e o) p (halves_of (gf m) e2 o2) (2 * i + 1 - p)
-          (halves_of (gf m) e' o') p'
-          (halves_of (gf m) e2' o2') d)
+          Step (gf m) (entry_of roots i) (entry_of syndrome i) (halves_of (gf m) P) p (halves_of (gf m) Q) (2 * i + 1 - p)
+          (halves_of (gf m) P') p'
+          (halves_of (gf m) Q') d)
           left A.step);
     }
   where
     left : p + (2 * i + 1 - p) + 2 - p' ≡ 2 * (i + 1) + 1 - p'
     left = omega (arith, G.low)
 
-pub passed_all : {m : ℕ} (roots : List ℕ) {syndrome : List ℕ} {i p : ℕ} {e o e2 o2 : List ℕ} → i ≡ length roots
-    → Passed m roots syndrome i p e o e2 o2
-    → Passed m roots syndrome (length roots) p e o e2 o2
-passed_all {m} roots {syndrome} {i} {p} {e} {o} {e2} {o2} h G = subst (λ (k : ℕ). Passed m roots syndrome k p e o e2 o2) h G
+pub passed_all : {m : ℕ} (roots : List ℕ) {syndrome : List ℕ} {i p : ℕ} {P Q : Polynomial} → i ≡ length roots
+    → Passed m roots syndrome i p P Q
+    → Passed m roots syndrome (length roots) p P Q
+passed_all {m} roots {syndrome} {i} {p} {P} {Q} h G = subst (λ (k : ℕ). Passed m roots syndrome k p P Q) h G
 
 -- ---- `locate`
 
-module _ {m : ℕ} (W : Width m) {roots syndrome : List ℕ} {p : ℕ} {e o e2 o2 : List ℕ} (G : Passed m roots syndrome (length roots) p e o e2 o2) where
-  pub located_first : p ≤ length roots → Located m roots syndrome e o
+module _ {m : ℕ} (W : Width m) {roots syndrome : List ℕ} {p : ℕ} {P Q : Polynomial} (G : Passed m roots syndrome (length roots) p P Q) where
+  pub located_first : p ≤ length roots → Located m roots syndrome P
   located_first h =
       record {
         pair = pair_weaken h G.first;
         degree = p;
-        rest = halves_of (gf m) e2 o2;
+        rest = halves_of (gf m) Q;
         rest_degree = 2 * length roots + 1 - p;
         least = omega arith;
         invariant = G.invariant;
       }
 
-  pub located_second : length roots < p → Located m roots syndrome e2 o2
+  pub located_second : length roots < p → Located m roots syndrome Q
   located_second h =
       record {
         pair = pair_weaken small G.second;
         degree = 2 * length roots + 1 - p;
-        rest = halves_of (gf m) e o;
+        rest = halves_of (gf m) P;
         rest_degree = p;
         least = omega arith;
         invariant = pass_swap (gf m) (gf_laws m W) G.invariant;

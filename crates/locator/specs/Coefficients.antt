@@ -1,4 +1,4 @@
--- The halves of the locator as the program keeps them: lists of coefficients, the lowest first, of a fixed length, and nought past the degree.
+-- The locator as the program keeps it, by its halves: lists of coefficients, the lowest first, of a fixed length, and nought past the degree.
 use Rattle.std.specs.Prelude.{◌≡◌, Bool, true, false, List, ℕ, zero, suc, ◌+◌, ◌*◌, ◌/◌, ◌-◌, ◌<◌, ◌≤◌, ◌^◌, length}
 use Rattle.algebra.specs.Field.{Ops}
 use Rattle.algebra.specs.Locator.Split.{Halves}
@@ -6,6 +6,7 @@ use Rattle.algebra.specs.Locator.Pass.{Invariant, Pivot, Raised, Reduced, Step}
 use Rattle.field.specs.Gf.{gf}
 use Rattle.slices.specs.Lengths.{longest}
 use Rattle.algebra.specs.Lists.{entry_of}
+use Rattle.locator.specs.declared.Polynomial.{Polynomial}
 
 -- the length of a half: enough for the larger degree, which reaches 2t + 1 where t is half of the longest word
 abbrev pub half : ℕ
@@ -19,8 +20,8 @@ horner K (suc n) c y = K.add (c 0) (K.mul y (horner K n (λ k. c (suc k)) y))
 unfoldable pub evaluate : Ops ℕ → List ℕ → ℕ → ℕ
 evaluate K l y = horner K (length l) (entry_of l) y
 
-abbrev pub halves_of : Ops ℕ → List ℕ → List ℕ → Halves ℕ
-halves_of K even odd = record { even = evaluate K even; odd = evaluate K odd }
+abbrev pub halves_of : Ops ℕ → Polynomial → Halves ℕ
+halves_of K p = record { even = evaluate K p.even; odd = evaluate K p.odd }
 
 -- a list of field elements of which only the first n can be other than nought
 pub record Half (m n : ℕ) (l : List ℕ) : Type 0 where
@@ -29,9 +30,9 @@ pub record Half (m n : ℕ) (l : List ℕ) : Type 0 where
   pub ends : (k : ℕ) → n ≤ k → entry_of l k ≡ 0
 
 -- the halves of a polynomial of degree d at most
-pub record Pair (m d : ℕ) (even odd : List ℕ) : Type 0 where
-  pub even_half : Half m (d / 2 + 1) even
-  pub odd_half : Half m ((d + 1) / 2) odd
+pub record Pair (m d : ℕ) (p : Polynomial) : Type 0 where
+  pub even_half : Half m (d / 2 + 1) p.even
+  pub odd_half : Half m ((d + 1) / 2) p.odd
 
 -- one half of a turn: a·other + b·pivot, with as many coefficients as the other one has
 pub record Combined (m n a b : ℕ) (pivot other other' : List ℕ) : Type 0 where
@@ -43,26 +44,24 @@ pub record Lifted (m n r : ℕ) (pivot pivot' : List ℕ) : Type 0 where
   pub shape : Half m (n + 1) pivot'
   pub multiple : (y : ℕ) → evaluate (gf m) pivot' y ≡ (gf m).mul ((gf m).add y r) (evaluate (gf m) pivot y)
 
--- both halves of the pivot and of the other pair, after a turn at a root whose square is r
-pub record Turned (m r a b p q : ℕ) (pivot-even pivot-odd other-even other-odd pivot-even' pivot-odd' other-even' other-odd' : List ℕ) : Type 0 where
-  pub pivot : Pair m (p + 2) pivot-even' pivot-odd'
-  pub other : Pair m q other-even' other-odd'
-  pub raised : Raised (gf m) r (halves_of (gf m) pivot-even pivot-odd) (halves_of (gf m) pivot-even' pivot-odd')
-  pub reduced : Reduced (gf m) a b (halves_of (gf m) pivot-even pivot-odd) (halves_of (gf m) other-even other-odd)
-      (halves_of (gf m) other-even' other-odd')
+-- the pivot P and the other polynomial Q, after a turn at a root whose square is r
+pub record Turned (m r a b p q : ℕ) (P Q P' Q' : Polynomial) : Type 0 where
+  pub pivot : Pair m (p + 2) P'
+  pub other : Pair m q Q'
+  pub raised : Raised (gf m) r (halves_of (gf m) P) (halves_of (gf m) P')
+  pub reduced : Reduced (gf m) a b (halves_of (gf m) P) (halves_of (gf m) Q) (halves_of (gf m) Q')
 
--- which of two pairs is the pivot: the first one or the second one
+-- which of two polynomials is the pivot: the first one or the second one
 pub data Choice (m a b p q : ℕ) : Bool → Type 0 where
   first : Pivot (gf m) a b p q → Choice m a b p q true
   second : Pivot (gf m) b a q p → Choice m a b p q false
 
--- one turn at the root z with the syndrome s, after which the first pair has the degree p' at most: the two degrees grow by two together
-pub record Advanced (m z s p q : ℕ) (even odd other-even other-odd : List ℕ) (p' : ℕ) (even' odd' other-even' other-odd' : List ℕ) : Type 0 where
-  pub first : Pair m p' even' odd'
-  pub second : Pair m (p + q + 2 - p') other-even' other-odd'
+-- one turn at the root z with the syndrome s, after which the first polynomial has the degree p' at most: the two degrees grow by two together
+pub record Advanced (m z s p q : ℕ) (P Q : Polynomial) (p' : ℕ) (P' Q' : Polynomial) : Type 0 where
+  pub first : Pair m p' P'
+  pub second : Pair m (p + q + 2 - p') Q'
   pub low : p' ≤ p + q + 2
-  pub step : Step (gf m) z s (halves_of (gf m) even odd) p (halves_of (gf m) other-even other-odd) q (halves_of (gf m) even' odd') p'
-      (halves_of (gf m) other-even' other-odd') (p + q + 2 - p')
+  pub step : Step (gf m) z s (halves_of (gf m) P) p (halves_of (gf m) Q) q (halves_of (gf m) P') p' (halves_of (gf m) Q') (p + q + 2 - p')
 
 -- a half that is c everywhere
 pub record Constant (c : ℕ) (l : List ℕ) : Type 0 where
@@ -71,11 +70,11 @@ pub record Constant (c : ℕ) (l : List ℕ) : Type 0 where
   pub ends : (k : ℕ) → 1 ≤ k → entry_of l k ≡ 0
 
 -- what the pass starts with: 1 and x
-pub record Started (even odd other-even other-odd : List ℕ) : Type 0 where
-  pub first_even : Constant 1 even
-  pub first_odd : Constant 0 odd
-  pub second_even : Constant 0 other-even
-  pub second_odd : Constant 1 other-odd
+pub record Started (P Q : Polynomial) : Type 0 where
+  pub first_even : Constant 1 P.even
+  pub first_odd : Constant 0 P.odd
+  pub second_even : Constant 0 Q.even
+  pub second_odd : Constant 1 Q.odd
 
 -- a syndrome for the roots, one element for each of them, and no more of them than repair can take
 pub record Syndrome (m : ℕ) (roots syndrome : List ℕ) : Type 0 where
@@ -84,18 +83,17 @@ pub record Syndrome (m : ℕ) (roots syndrome : List ℕ) : Type 0 where
   pub inside : (k : ℕ) → k < length roots → entry_of syndrome k < 2 ^ m
 
 -- the pass after i roots: the degrees add up to 2i + 1
-pub record Passed (m : ℕ) (roots syndrome : List ℕ) (i p : ℕ) (even odd other-even other-odd : List ℕ) : Type 0 where
+pub record Passed (m : ℕ) (roots syndrome : List ℕ) (i p : ℕ) (P Q : Polynomial) : Type 0 where
   pub low : p ≤ 2 * i + 1
-  pub first : Pair m p even odd
-  pub second : Pair m (2 * i + 1 - p) other-even other-odd
-  pub invariant : Invariant (gf m) (entry_of roots) (entry_of syndrome) i (halves_of (gf m) even odd) p (halves_of (gf m) other-even other-odd)
-      (2 * i + 1 - p)
+  pub first : Pair m p P
+  pub second : Pair m (2 * i + 1 - p) Q
+  pub invariant : Invariant (gf m) (entry_of roots) (entry_of syndrome) i (halves_of (gf m) P) p (halves_of (gf m) Q) (2 * i + 1 - p)
 
--- the pass is over, and of its two pairs `even` and `odd` is the one of smaller degree; so its degree is at most the number of roots
-pub record Located (m : ℕ) (roots syndrome even odd : List ℕ) : Type 0 where
-  pub pair : Pair m (length roots) even odd
+-- the pass is over, and P is the one of smaller degree of its two polynomials; so its degree is at most the number of roots
+pub record Located (m : ℕ) (roots syndrome : List ℕ) (P : Polynomial) : Type 0 where
+  pub pair : Pair m (length roots) P
   pub degree : ℕ
   pub rest : Halves ℕ
   pub rest_degree : ℕ
   pub least : degree ≤ rest_degree
-  pub invariant : Invariant (gf m) (entry_of roots) (entry_of syndrome) (length roots) (halves_of (gf m) even odd) degree rest rest_degree
+  pub invariant : Invariant (gf m) (entry_of roots) (entry_of syndrome) (length roots) (halves_of (gf m) P) degree rest rest_degree

@@ -44,8 +44,8 @@ fn evaluate(m: u32, n: usize, coefficients: &[Elem], y: Elem) -> Elem
 
 // How far a polynomial of degree d at most is from solving the equation of the root z with the syndrome s.
 fn discrepancy(m: u32, d: usize, polynomial: &Polynomial, z: Elem, s: Elem) -> Elem
-    requires { Width m × Pair m d polynomial.now.even polynomial.now.odd × (d ≤ longest) × (z < 2 ^ m) × (s < 2 ^ m) }
-    ensures { (result ≡ discrepancy (gf m) z s (halves_of (gf m) polynomial.now.even polynomial.now.odd)) × (result < 2 ^ m) }
+    requires { Width m × Pair m d polynomial.now × (d ≤ longest) × (z < 2 ^ m) × (s < 2 ^ m) }
+    ensures { (result ≡ discrepancy (gf m) z s (halves_of (gf m) polynomial.now)) × (result < 2 ^ m) }
 {
     let y = product(m, z, z);
     let slope = evaluate(m, (d + 1) / 2, &polynomial.odd, y);
@@ -55,8 +55,8 @@ fn discrepancy(m: u32, d: usize, polynomial: &Polynomial, z: Elem, s: Elem) -> E
 
 // Whether x is a root of a polynomial of degree d at most.
 pub fn is_root(m: u32, d: usize, polynomial: &Polynomial, x: Elem) -> bool
-    requires { Width m × Pair m d polynomial.now.even polynomial.now.odd × (d ≤ longest) × (x < 2 ^ m) }
-    ensures { result ≡ eqb (value (gf m) (halves_of (gf m) polynomial.now.even polynomial.now.odd) x) 0 }
+    requires { Width m × Pair m d polynomial.now × (d ≤ longest) × (x < 2 ^ m) }
+    ensures { result ≡ eqb (value (gf m) (halves_of (gf m) polynomial.now) x) 0 }
 {
     let y = product(m, x, x);
     let level = evaluate(m, d / 2 + 1, &polynomial.even, y);
@@ -100,9 +100,8 @@ fn turn(
     other: &mut Polynomial,
 )
     requires width { Width m × (r < 2 ^ m) × (a < 2 ^ m) × (b < 2 ^ m) × (p < longest) × (q < longest) }
-    requires pair { Pair m p pivot.old.even pivot.old.odd × Pair m q other.old.even other.old.odd × Pivot (gf m) a b p q }
-    ensures { Turned m r a b p q pivot.old.even pivot.old.odd other.old.even other.old.odd
-        pivot.new.even pivot.new.odd other.new.even other.new.odd }
+    requires pair { Pair m p pivot.old × Pair m q other.old × Pivot (gf m) a b p q }
+    ensures { Turned m r a b p q pivot.old other.old pivot.new other.new }
 {
     combine(m, q / 2 + 1, a, b, &pivot.even, &mut other.even);
     combine(m, (q + 1) / 2, a, b, &pivot.odd, &mut other.odd);
@@ -132,9 +131,8 @@ fn advance(
     second: &mut Polynomial,
 ) -> usize
     requires width { Width m × (z < 2 ^ m) × (s < 2 ^ m) × (p < longest) × (q < longest) }
-    requires pair { Pair m p first.old.even first.old.odd × Pair m q second.old.even second.old.odd }
-    ensures { Advanced m z s p q first.old.even first.old.odd second.old.even second.old.odd
-        result first.new.even first.new.odd second.new.even second.new.odd }
+    requires pair { Pair m p first.old × Pair m q second.old }
+    ensures { Advanced m z s p q first.old second.old result first.new second.new }
 {
     let a = discrepancy(m, p, first, z, s);
     let b = discrepancy(m, q, second, z, s);
@@ -158,7 +156,7 @@ fn constant(c: Elem) -> [Elem; HALF]
 
 // What the pass starts with: 1, of degree 0, and x, of degree 1.
 fn start() -> (Polynomial, Polynomial)
-    ensures { Started result.0.even result.0.odd result.1.even result.1.odd }
+    ensures { Started result.0 result.1 }
 {
     let first = Polynomial {
         even: constant(1),
@@ -175,7 +173,7 @@ fn start() -> (Polynomial, Polynomial)
 // smaller degree. The degree of the second one is what is left of 2i + 1 after i roots.
 pub fn locate(m: u32, roots: &[Elem], syndrome: &[Elem]) -> Polynomial
     requires { Width m × Points (gf m) (length roots.now) (entry_of roots.now) × Syndrome m roots.now syndrome.now }
-    ensures { Located m roots.now syndrome.now result.even result.odd }
+    ensures { Located m roots.now syndrome.now result }
 {
     let (mut first, mut second) = start();
     let mut p = 0;

@@ -13,7 +13,7 @@ ghost use Rattle.messages.specs.MessageRules.{message_rules};
 use basis::elimination::{Basis, parity_basis};
 use parity::Code;
 use refusals::{Refusal, Rule};
-use slices::all_bits;
+use slices::{LONGEST, all_bits};
 
 // The basis of the code, and k, the number of message columns.
 pub fn code_basis(code: &Code<'_>, basis: &mut Basis) -> usize
@@ -23,11 +23,15 @@ pub fn code_basis(code: &Code<'_>, basis: &mut Basis) -> usize
     code.cols.len() - parity_basis(code.c.m, t, code.h, code.cols, basis)
 }
 
-// The message columns, which are the free places of the basis, and k.
-pub fn message_columns(code: &Code<'_>, basis: &mut Basis) -> usize
-    ensures { OfCode MessageColumns code.now basis.new.leads result }
+// The message columns, which are the free places of `leads`, and k. The rows of the basis are off the stack afterwards.
+#[inline(never)]
+pub fn message_columns(code: &Code<'_>, leads: &mut [u8; LONGEST]) -> usize
+    ensures { OfCode MessageColumns code.now leads.new result }
 {
-    code_basis(code, basis)
+    let mut basis = Basis::new();
+    let k = code_basis(code, &mut basis);
+    leads.copy_from_slice(&basis.leads);
+    k
 }
 
 // Whether a message has the length k that is due, and `read`, where it is to hold bits, does.

@@ -28,6 +28,7 @@ use Rattle.signature.specs.Inverses.{Inverted, added}
 use Rattle.signature.proofs.Stored.{roots_are, support_is}
 use Rattle.parity.specs.Parity.{Summed, signature_sum, signature_syndrome, signature_in}
 use Rattle.parity.specs.Selected.{OnColumns}
+use Rattle.locator.specs.declared.Polynomial.{Polynomial}
 use Rattle.locator.specs.Coefficients.{halves_of, Syndrome, Located}
 use Rattle.nearest.specs.Decoding.{is_error, root_place, Candidate}
 use Rattle.nearest.proofs.Errors.{roots}
@@ -144,21 +145,21 @@ module _ {c : Parameters} {h cols : List ℕ} (O : OnColumns c h cols) where
         halved a b = omega arith
 
     -- what `turn_roots` makes of the pair that the pass leaves is the candidate
-    module _ {rs ls ss even odd word : List ℕ} {number : ℕ} (er : rs ≡ tabulate c.t z) (el : ls ≡ tabulate c.n L)
-        (es : ss ≡ tabulate c.t s) (P : Located c.m rs ss even odd)
-        (number_is : number ≡ count (length cols) (root_place c.m even odd ls cols))
-        (word_is : word ≡ turned (length cols) (root_place c.m even odd ls cols) received) where
-      root_error : (j : ℕ) → j < length cols → root_place c.m even odd ls cols j ≡ is_error c h cols (halves_of (gf c.m) even odd) j
+    module _ {rs ls ss word : List ℕ} {p : Polynomial} {number : ℕ} (er : rs ≡ tabulate c.t z) (el : ls ≡ tabulate c.n L)
+        (es : ss ≡ tabulate c.t s) (P : Located c.m rs ss p)
+        (number_is : number ≡ count (length cols) (root_place c.m p ls cols))
+        (word_is : word ≡ turned (length cols) (root_place c.m p ls cols) received) where
+      root_error : (j : ℕ) → j < length cols → root_place c.m p ls cols j ≡ is_error c h cols (halves_of (gf c.m) p) j
       unfolding root_place is_error
       root_error j l =
-          ap (λ (x : ℕ). eqb (value (gf c.m) (halves_of (gf c.m) even odd) x) 0)
+          ap (λ (x : ℕ). eqb (value (gf c.m) (halves_of (gf c.m) p) x) 0)
           (support_at_lem el (entry_of cols j) (O.selected.inside j l))
 
       pub candidate_found : Candidate c h cols received number word
       unfolding turned
       candidate_found =
           let many : length rs ≡ c.t = ap length er ∙ length-tabulate c.t z in
-          let pair = halves_of (gf c.m) even odd in
+          let pair = halves_of (gf c.m) p in
           record {
             pair = pair;
             degree = P.degree;
@@ -170,7 +171,7 @@ module _ {c : Parameters} {h cols : List ℕ} (O : OnColumns c h cols) where
                 (subst (λ (i : ℕ). Invariant (gf c.m) (entry_of rs) (entry_of ss) i pair P.degree P.rest P.rest_degree) many
                 P.invariant);
             least = P.least;
-            number_is = number_is ∙ count_tests (length cols) (root_place c.m even odd ls cols) _ root_error;
+            number_is = number_is ∙ count_tests (length cols) (root_place c.m p ls cols) _ root_error;
             word_is =
                 word_is
                 ∙ tabulate_cong (length cols) (λ j l. ap (λ (b : Bool). entry_of received j ⊕ cond b 1 0) (root_error j l));

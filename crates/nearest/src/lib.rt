@@ -53,15 +53,15 @@ fn turn_roots(
     received: &[u8],
     word: &mut [u8],
 ) -> usize
-    requires width { Width m × Pair m d polynomial.now.even polynomial.now.odd × (d ≤ longest) × Elements m support.now }
+    requires width { Width m × Pair m d polynomial.now × (d ≤ longest) × Elements m support.now }
     requires by_index { (j : ℕ) → j < length cols.now → entry_of cols.now j < length support.now }
     requires received_len { (length received.now ≡ length cols.now) × (length word.old ≡ length cols.now) }
     ensures value { result
         ≡ count (length cols.now)
-        (root_place m polynomial.now.even polynomial.now.odd support.now cols.now) }
+        (root_place m polynomial.now support.now cols.now) }
     ensures word_after { word.new
         ≡ turned (length cols.now)
-        (root_place m polynomial.now.even polynomial.now.odd support.now cols.now) received.now }
+        (root_place m polynomial.now support.now cols.now) received.now }
 {
     let mut turned = 0;
     for (j, column) in cols.iter().enumerate() {

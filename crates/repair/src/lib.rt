@@ -17,7 +17,8 @@ use refusals::Refusal;
 use shortened::{Lent, Setting, begin};
 use slices::LONGEST;
 
-// Either the repaired word, in the second buffer, with the number of places turned, or the rule that refuses it.
+// Either the repaired word, in the second buffer, with the number of places turned, or the rule that refuses it. An enum of
+// its own, and no Result, since 01 asks for the form by name.
 #[derive(Clone, Copy, Debug, PartialEq, Eq)]
 pub enum Recovery {
     Repaired(u32),

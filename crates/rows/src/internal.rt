@@ -39,21 +39,15 @@ pub fn read(decoder: &Decoder<'_, '_>, received: &[u8], repaired: &mut [u8]) -> 
     ensures value { result ≡ of_code reading_answer decoder.now.code received.now }
     ensures repaired_after { repaired.new ≡ of_code reading_after decoder.now.code received.now repaired.old }
 {
-    let mut basis = Basis::new();
+    let mut leads: [u8; LONGEST] = [0; LONGEST];
     let mut word: [u8; LONGEST] = [0; LONGEST];
     let mut message: [u8; LONGEST] = [0; LONGEST];
-    let k = message_columns(&decoder.code, &mut basis);
+    let k = message_columns(&decoder.code, &mut leads);
     if k < ROW_BITS {
         return Reading::Refused(Refusal(Rule::TooFewBits));
     }
     let n = decoder.code.cols.len();
-    let reading = based::read(
-        decoder,
-        &basis.leads,
-        received,
-        &mut message[..k],
-        &mut word[..n],
-    );
+    let reading = based::read(decoder, &leads, received, &mut message[..k], &mut word[..n]);
     if let Reading::Read(_, _) = reading {
         repaired.copy_from_slice(&word[..n]);
     }

@@ -20,7 +20,8 @@ use refusals::Refusal;
 use shortened::{Lent, Setting, begin};
 use slices::LONGEST;
 
-// What reading gives: the row, with the number of places in which the word was repaired, or the rule that refuses it.
+// What reading gives: the row, with the number of places in which the word was repaired, or the rule that refuses it. An enum of its
+// own, and no Result, since 01 asks for the form by name.
 #[derive(Clone, Copy, Debug, PartialEq, Eq)]
 pub enum Reading {
     Read(Row, u32),

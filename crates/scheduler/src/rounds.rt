@@ -37,6 +37,7 @@ fn mark_all(code: &Code<'_>, waiting: &[u8], words: &[u8], marks: &mut [Mark])
     ensures { marks.new ≡ of_code marks_of code.now waiting.now words.now }
 {
     let n = code.cols.len();
+    // Cut by hand: `chunks_exact` asks that n is not 0, which a code on its columns does not tell.
     for (p, to) in marks.iter_mut().enumerate() {
         let start = p * n;
         let end = start + n;
@@ -76,6 +77,7 @@ fn hand_out(
         ≡ of_code handed_parts decoder.now.code marks.now words.now handed.old }
 {
     let n = decoder.code.cols.len();
+    // As in `mark_all`.
     for (p, answer) in answers.iter_mut().enumerate() {
         let start = p * n;
         let end = start + n;

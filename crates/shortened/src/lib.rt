@@ -18,14 +18,13 @@ ghost use Rattle.shortened.specs.Setting.{places, short_code, short_selection};
 ghost use Rattle.shortened.specs.Begun.{Begun};
 
 use basis::Column;
-use basis::elimination::Basis;
 use columns::{Choice, Lengths, choose_columns, is_all_places};
 use field::Elem;
 use messages::message_columns;
 use params::Parameters;
 use parity::Code;
 use refusals::{Refusal, Rule};
-use slices::all_bits;
+use slices::{LONGEST, all_bits};
 use std::marker::Model;
 
 // What a call on words is about: which of the code's columns the places stand for, and a mark for each place.
@@ -72,7 +71,7 @@ impl<'a> Setting<'a> {
 }
 
 // Whether the buffers lent to a call have their lengths: the words, with an entry for each sent place, and others, whose lengths the code alone
-// tells.
+// tells. Beside `Lengths` of columns, which speaks of what has an entry for each place, hidden or sent: one type would hide which is meant.
 #[derive(Clone, Copy)]
 pub struct Lent {
     pub others: bool,
@@ -114,9 +113,9 @@ fn hides_messages(code: &Code<'_>, hidden: &[u8]) -> bool
     if sent_places(hidden) == hidden.len() {
         return true;
     }
-    let mut basis = Basis::new();
-    message_columns(code, &mut basis);
-    hides_free(hidden, &basis.leads)
+    let mut leads: [u8; LONGEST] = [0; LONGEST];
+    message_columns(code, &mut leads);
+    hides_free(hidden, &leads)
 }
 
 // Whether the marks of an accepted code's columns keep their rules: 20, then 2, where `words` says whether the lent words have their length.

@@ -143,6 +143,7 @@ pub fn make_all(
 {
     counts.fill(0);
     let n = decoder.code.cols.len();
+    // Cut by hand: `chunks_exact` asks that n is not 0, which a code on its columns does not tell.
     for (i, gear) in gears.iter().enumerate() {
         let gear = u32::from(*gear);
         let lamp = u32::from(lamps[i]);

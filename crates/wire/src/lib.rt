@@ -1,4 +1,7 @@
 // Answers as numbers, since no enum crosses into C: the value, or minus the refusal's number.
+//
+// One function for each kind of answer: `()` has no number to convert, and the contracts of capi cite each by its name, so that a generic function is no
+// plainer.
 #![tactic(auto)]
 
 ghost use Rattle.std.specs.Prelude.{◌≡◌};

@@ -19,7 +19,7 @@ use messages::{check_message, code_basis, message_columns};
 use parity::{Code, syndromes};
 use refusals::{Refusal, Rule};
 use shortened::{check_marks, sent_places};
-use slices::all_bits;
+use slices::{LONGEST, all_bits};
 
 // 1 for each message column and 0 for each check column into `out`, and k.
 pub fn roles(code: &Code<'_>, out: &mut [u8]) -> u32
@@ -27,9 +27,9 @@ pub fn roles(code: &Code<'_>, out: &mut [u8]) -> u32
     ensures value { result ≡ of_code dimension code.now }
     ensures out_after { out.new ≡ of_code roles_of code.now }
 {
-    let mut basis = Basis::new();
-    let k = message_columns(code, &mut basis);
-    systematic::roles(&basis.leads, out);
+    let mut leads: [u8; LONGEST] = [0; LONGEST];
+    let k = message_columns(code, &mut leads);
+    systematic::roles(&leads, out);
     k as u32
 }
 
@@ -82,9 +82,9 @@ pub fn message(code: &Code<'_>, word: &[u8], message: &mut [u8]) -> Result<(), R
         (message_rules (of_code dimension code.now) (length message.old) (all_bits word.now))
         message.old (of_code message_of code.now word.now) message.new }
 {
-    let mut basis = Basis::new();
-    let k = message_columns(code, &mut basis);
+    let mut leads: [u8; LONGEST] = [0; LONGEST];
+    let k = message_columns(code, &mut leads);
     check_message(k, message.len(), word)?;
-    systematic::take_out(word, &basis.leads, message);
+    systematic::take_out(word, &leads, message);
     Ok(())
 }

@@ -7,7 +7,7 @@ pub product-requires-2 : goal.product-requires-2
 unfolding ◌⊕◌
 product-requires-2 c = (
   c.requires.0,
-  slope_element c.args.m c.args.polynomial.now.even c.args.polynomial.now.odd c.requires.0 c.args.s c.args.z
+  slope_element c.args.m c.args.polynomial.now c.requires.0 c.args.s c.args.z
       c.product.ensures.0,
   c.evaluate-slope.ensures.1,
 )
@@ -15,7 +15,7 @@ product-requires-2 c = (
 pub returns : goal.returns
 unfolding ◌⊕◌
 returns c =
-    discrepancy_value c.args.m c.args.polynomial.now.even c.args.polynomial.now.odd c.requires.0 c.args.z c.args.s
+    discrepancy_value c.args.m c.args.polynomial.now c.requires.0 c.args.z c.args.s
     c.product-y.ensures.0 c.evaluate-slope.ensures.0
     c.evaluate-level.ensures.0 c.product.ensures.0 c.product-2.ensures.0
     c.product-3.ensures.0

@@ -10,5 +10,5 @@ pub returns : goal.returns
 unfolding ◌⊕◌
 returns c =
     ap (λ (v : ℕ). eqb v 0)
-    (value_at c.args.m c.args.polynomial.now.even c.args.polynomial.now.odd c.args.x c.product-y.ensures.0
+    (value_at c.args.m c.args.polynomial.now c.args.x c.product-y.ensures.0
     c.evaluate-level.ensures.0 c.evaluate-slope.ensures.0 c.product.ensures.0)

@@ -3,4 +3,4 @@ use Rattle.locator.specs.Coefficients.{Passed}
 use Rattle.locator.proofs.locate.Given as goal
 
 abbrev pub invariant-loop-i : goal.invariant-loop-i
-invariant-loop-i l = Passed l.m l.roots l.syndrome l.i l.p l.first.even l.first.odd l.second.even l.second.odd
+invariant-loop-i l = Passed l.m l.roots l.syndrome l.i l.p l.first l.second

@@ -45,7 +45,7 @@ read-reading-requires c =
     let short = columns_short (on_columns code) in
     let message_long = sym (length_lent (le_trans (fewer found.ensures) short)) in
     let columns =
-    subst (MessageColumns code.c code.h.now code.cols.now found.new.basis.leads) message_long found.ensures in
+    subst (MessageColumns code.c code.h.now code.cols.now found.new.leads) message_long found.ensures in
     record {
       message_columns = (columns, subst (λ (k : ℕ). row_bits ≤ k) message_long c.if-k-lt-ROW_BITS.false);
       received_len = (c.requires.0, length_lent short);

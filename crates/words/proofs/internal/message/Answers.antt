@@ -29,7 +29,7 @@ take_out-requires c =
     let (long, bits) =
     message_fits found.result (length c.args.message.now) c.args.word.now (tested_none c.in_ok-check_message.ensures) in (
       omega (arith, columns_short (on_columns c.args.code.now), c.requires),
-      long ∙ counted found.ensures ∙ ap (λ (k : ℕ). free_count k found.new.basis.leads) (sym c.requires),
+      long ∙ counted found.ensures ∙ ap (λ (k : ℕ). free_count k found.new.leads) (sym c.requires),
     )
 
 pub returns : goal.returns
@@ -39,5 +39,5 @@ returns c =
     let none = tested_none c.in_ok-check_message.ensures in
     let due = message_due found.ensures (length a.message.now) (all_bits a.word.now) (sym none) in
     ended_done _ a.message.now (message_of a.code.now.c a.code.now.h.now a.code.now.cols.now a.word.now) due refl
-    (c.take_out.ensures ∙ ap (λ (k : ℕ). chosen k (free_at found.new.basis.leads) (entry_of a.word.now)) c.requires
+    (c.take_out.ensures ∙ ap (λ (k : ℕ). chosen k (free_at found.new.leads) (entry_of a.word.now)) c.requires
     ∙ sym (message_is found.ensures a.word.now))

@@ -35,6 +35,6 @@ returns c =
     let found = c.message_columns-k in
     record {
       value = found.ensures.number;
-      out_after = c.roles.ensures ∙ ap (λ (k : ℕ). tabulate k (λ p. cond (free_at found.new.basis.leads p) 1 0))
+      out_after = c.roles.ensures ∙ ap (λ (k : ℕ). tabulate k (λ p. cond (free_at found.new.leads p) 1 0))
           c.requires ∙ sym (roles_are found.ensures);
     }
