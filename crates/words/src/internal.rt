@@ -61,7 +61,8 @@ pub fn syndrome(code: &Code<'_>, word: &[u8], out: &mut [Elem]) -> Result<(), Re
     Ok(())
 }
 
-// The code word that carries the message into `word`, or 2 or 8.
+// The code word that carries the message into `word`, or 2 or 8. Its basis is on the stack only here.
+#[inline(never)]
 pub fn encode(code: &Code<'_>, message: &[u8], word: &mut [u8]) -> Result<(), Refusal>
     requires { length word.old ≡ length code.now.cols.now }
     ensures { Ended result
