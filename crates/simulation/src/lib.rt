@@ -79,6 +79,7 @@ pub fn ride(
 }
 
 // The ride for an accepted code and any list of its columns: 12, or what ends the ride.
+#[inline(never)]
 fn ride_on(
     decoder: &Decoder<'_, '_>,
     gears: &[u8],
