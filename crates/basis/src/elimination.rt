@@ -16,7 +16,9 @@ use slices::LONGEST;
 // The words of a table that has a row for each place.
 const TABLE: usize = LONGEST * ROW;
 
-// A basis: row p, which leads at place p, stands in `rows` from p * ROW on where `leads` has 1 at p.
+// A basis: row p, which leads at place p, stands in `rows` from p * ROW on where `leads` has 1 at p. That it is one of n places (`Form`) stands in the
+// contracts and not in the type: each would have to say in its place that its word or its row is as long as the n that the type would hold. The rows
+// are one list and the leads 0 and 1, as the definitions read them; the leads go to the callers without the rows.
 #[derive(Drop)]
 pub struct Basis {
     pub rows: [u64; TABLE],
@@ -76,7 +78,7 @@ fn store(p: usize, row: &[u64], basis: &mut Basis)
     basis.leads[p] = 1;
 }
 
-// Brings a row in, which is used up, and says how many rows more the basis has: none or one.
+// Brings a row in, which is used up, and says how many rows more the basis has, none or one, as a number that is added to the rank.
 fn insert(n: usize, row: &mut [u64], basis: &mut Basis) -> usize
     requires { Form n basis.old.rows basis.old.leads × (length row.old ≡ row_words) }
     ensures { Inserted n row.old basis.old.rows basis.old.leads result basis.new.rows basis.new.leads }
@@ -94,7 +96,7 @@ fn insert(n: usize, row: &mut [u64], basis: &mut Basis) -> usize
     0
 }
 
-// The basis of all rows of the matrix, and the number of its rows.
+// The basis of all rows of the matrix, in the caller's room, so that one table is on the stack, and the number of its rows.
 pub fn parity_basis(m: u32, t: usize, h: &[Elem], cols: &[Column], basis: &mut Basis) -> usize
     requires { Width m × (t ≤ longest) × (length cols.now ≤ longest) × Reaches t h.now cols.now }
     ensures { ParityBasis m t h.now cols.now basis.new.rows basis.new.leads result }

@@ -19,9 +19,7 @@ pub(crate) fn add(from: &[u64], to: &mut [u64])
     requires { length to.old ≡ length from.now }
     ensures { Added from.now to.old to.new }
 {
-    for (k, word) in to.iter_mut().enumerate() {
-        *word ^= from[k];
-    }
+    slices::add(from, to);
 }
 
 // Adds a bit at place p.

@@ -27,7 +27,7 @@ pub fn product(m: u32, a: &[Elem], b: &[Elem], out: &mut [Elem]) -> Result<(), R
     ensures out_after { out.new ≡ product_after m a.now b.now out.old }
 {
     check_pair(m, a, b, out.len())?;
-    dyadic::clear(out);
+    out.fill(0);
     dyadic::add_product(m, a, b, out);
     Ok(())
 }
@@ -42,7 +42,8 @@ pub fn inverse(m: u32, a: &[Elem], out: &mut [Elem]) -> Result<(), Refusal>
     if zero {
         return Err(Refusal(Rule::Singular));
     }
-    dyadic::divide(m, a, field::internal::product(m, sum, sum), out);
+    out.copy_from_slice(a);
+    dyadic::divide(m, field::internal::product(m, sum, sum), out);
     Ok(())
 }
 

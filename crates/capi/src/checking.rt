@@ -44,7 +44,7 @@ pub extern "C" fn zov_same(
         (same_answer (code m1 n1 t1 omega1) h1.now hidden1.now (code m2 n2 t2 omega2) h2.now
         hidden2.now) }
 {
-    wire::sameness_code(codes::same(
+    wire::value_code(codes::same(
         Parameters {
             m: m1,
             n: n1,

@@ -22,7 +22,7 @@ pub extern "C" fn zov_roles(
     ensures roles_after { roles.new ≡ roles_after (code m n t omega) h.now (short_code hidden.now) roles.old }
 {
     let s = Setting::whole_code(hidden);
-    wire::counted_code(words::roles(Parameters { m, n, t, omega }, h, &s, roles))
+    wire::value_code(words::roles(Parameters { m, n, t, omega }, h, &s, roles))
 }
 
 #[unsafe(no_mangle)]

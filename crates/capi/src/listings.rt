@@ -8,5 +8,5 @@ pub extern "C" fn zov_sheet(text: &[u8], out: &mut [u8]) -> u32
     ensures value { result ≡ counted_code (listing_answer text.now out.old) }
     ensures out_after { out.new ≡ listing_after text.now out.old }
 {
-    wire::counted_code(listing::listing(text, out))
+    wire::value_code(listing::listing(text, out))
 }

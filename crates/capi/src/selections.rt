@@ -1,4 +1,4 @@
-// The calls on words for a selection of a code's blocks, a shift for each. Any number may stand in either list.
+// The calls on words for a selection of a code's blocks, a shift for each. Any number may stand in either list. C has a function of its own for each.
 ghost use Rattle.std.specs.Prelude.{◌≡◌};
 ghost use Rattle.shortened.specs.Setting.{short_selection};
 ghost use Rattle.words.specs.Answers.{roles_answer, roles_after, syndrome_answer, syndrome_after, encode_answer, encode_after, message_answer, message_after};
@@ -32,7 +32,7 @@ pub extern "C" fn zov_selection_roles(
 {
     let c = Parameters { m, n, t, omega };
     let s = Setting::selection(blocks, shifts, hidden);
-    wire::counted_code(words::roles(c, h, &s, roles))
+    wire::value_code(words::roles(c, h, &s, roles))
 }
 
 #[unsafe(no_mangle)]

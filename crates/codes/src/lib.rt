@@ -8,12 +8,12 @@ ghost use Rattle.refusals.specs.Rules.{fault};
 ghost use Rattle.codes.specs.Answers.{check_answer, roots_after, support_after, lowest, card_rules, same_answer};
 ghost use Rattle.codes.specs.Same.{same_code};
 
-use basis::Column;
+use columns::Room;
 use field::Elem;
 use params::Parameters;
+use parity::points;
 use refusals::Refusal;
 use shortened::{Lent, Setting, begin};
-use slices::LONGEST;
 
 // Whether a code is accepted, with its marks. Where it is, `roots` holds z_i = 1/h_i + ω and `support` L_j = 1/h_j + 1/h_0 + ω, n of each.
 pub fn check(
@@ -33,13 +33,15 @@ pub fn check(
         words: true,
     };
     let s = Setting::whole_code(hidden);
-    let mut inverses: [Elem; LONGEST] = [0; LONGEST];
-    let mut columns: [Column; LONGEST] = [0; LONGEST];
-    begin(c, h, &s, lent, &mut inverses, &mut columns)?;
-    let omega = c.omega as Elem;
-    signature::store_roots(&inverses, omega, roots);
-    signature::store_support(&inverses, omega, support);
-    Ok(())
+    let mut room = Room::new();
+    match begin(c, h, &s, lent, &mut room) {
+        Ok(code) => {
+            points::roots(&code, roots);
+            points::support(&code, support);
+            Ok(())
+        }
+        Err(refusal) => Err(refusal),
+    }
 }
 
 // Whether two codes are the same: whether m, n, t, ω, h and the marks agree.
@@ -66,9 +68,11 @@ fn check_card(c: Parameters, h: &[Elem], hidden: &[u8]) -> Result<(), Refusal>
         words: true,
     };
     let s = Setting::whole_code(hidden);
-    let mut inverses: [Elem; LONGEST] = [0; LONGEST];
-    let mut columns: [Column; LONGEST] = [0; LONGEST];
-    begin(c, h, &s, lent, &mut inverses, &mut columns).map(|_| ())
+    let mut room = Room::new();
+    match begin(c, h, &s, lent, &mut room) {
+        Ok(_) => Ok(()),
+        Err(refusal) => Err(refusal),
+    }
 }
 
 // Of two tests the refusal with the lower number, or the only one.
@@ -81,7 +85,7 @@ fn lower(a: Result<(), Refusal>, b: Result<(), Refusal>) -> Result<(), Refusal>
     let Err(second) = b else {
         return a;
     };
-    if u32::from(second) < u32::from(first) {
+    if second.0 < first.0 {
         return b;
     }
     a

@@ -2,11 +2,12 @@
 use mathlib.Core.Path.{◌≡◌, sym, ap, ◌∙◌, subst}
 use mathlib.Core.Logic.{◌≢◌}
 use mathlib.Core.Bool.{Bool, ◌&&◌}
-use mathlib.Core.List.{List}
+use mathlib.Core.List.{List, ◌++◌}
 use Prim.Native.Nat.{ℕ, ◌*◌, ◌/◌, ◌<◌, ◌≤◌}
 use native.Mathlib.Nat.{div-le_self}
 use native.Mathlib.Omega.{arith}
-use lib.ListN.{length, take}
+use lib.ListN.{length, take, drop}
+use lib.Seq.{length-take-le, take_at}
 use Rattle.algebra.specs.Tabulate.{tabulate}
 use Rattle.refusals.specs.Counted.{Count, Refused}
 use Rattle.refusals.specs.Rules.{fault}
@@ -37,6 +38,12 @@ module _ (c : Parameters) (h : List ℕ) (s : Choice) (others full : Bool) (colu
     where
       refl_zero : ◌≡◌ {A = ℕ} 0 0
       refl_zero = omega arith
+
+-- n columns written at the front of the room, which is longer
+pub written_front : (f : ℕ → List ℕ) {n : ℕ} (old : List ℕ) {block : List ℕ} → length (f n) ≡ n → n ≤ length old
+    → block ≡ f (length (take n old)) → take n (block ++ drop n old) ≡ f n
+written_front f {n} old long fits is =
+    ap (λ (b : List ℕ). take n (b ++ drop n old)) (is ∙ ap f (length-take-le n old fits)) ∙ take_at (f n) (drop n old) n long
 
 -- ---- the whole code
 

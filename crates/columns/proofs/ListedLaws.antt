@@ -1,17 +1,18 @@
 -- How a call goes on that has found the columns of all places: what that refuses is refused, and else the list begins with columns of an accepted
 -- code.
-use Rattle.std.specs.Prelude.{◌≡◌, refl, ◌≢◌, Bool, true, List, ◌++◌, ℕ, zero, suc, length, take}
+use Rattle.std.specs.Prelude.{◌≡◌, refl, ◌≢◌, Bool, true, List, ◌++◌, ℕ, zero, suc, ◌≤◌, length, take}
 use Rattle.std.proofs.Common.{sym, ap, ◌∙◌, subst}
 use Rattle.refusals.specs.Counted.{Counted}
 use Rattle.refusals.specs.Counted.{Count, Refused}
 use Rattle.refusals.specs.Answered.{refused_due, counted_apart, same_counted}
 use Rattle.refusals.specs.Ending.{first_refuses, second_decides}
 use Rattle.refusals.specs.Rules.{Rule, fault, unless_refused}
+use Rattle.slices.specs.Lengths.{longest}
 use Rattle.params.specs.declared.Parameters.{Parameters}
 use Rattle.params.specs.Code.{Accepted}
 use Rattle.parity.specs.Selected.{OnColumns}
 use Rattle.columns.specs.Choice.{Choice, all_places, all_columns, choice_rules}
-use Rattle.columns.proofs.ChoiceLaws.{choice_numbered, choice_accepted, all_on_columns, length_all}
+use Rattle.columns.proofs.ChoiceLaws.{choice_numbered, choice_accepted, all_on_columns, all_short, length_all}
 use Rattle.columns.specs.Fits.{ChoiceFits}
 use Rattle.columns.specs.Listed.{Listed}
 
@@ -57,6 +58,10 @@ module _ {c : Parameters} {h : List ℕ} {s : Choice} {others full : Bool} {colu
     pub listed_columns : OnColumns c h (take k columns)
     listed_columns =
         let (o, f, A, F) = listed_accepted in subst (OnColumns c h) (sym listed_numbered) (all_on_columns A s F)
+
+    pub listed_few : k ≤ longest
+    listed_few =
+        let (o, f, A, F) = listed_accepted in subst (λ (i : ℕ). i ≤ longest) (sym listed_places) (all_short A s F)
 
     -- what has an entry for each place has one for each column
     pub listed_long : {l : ℕ} → l ≡ all_places c s → l ≡ length (take k columns)

@@ -5,4 +5,4 @@ use Rattle.columns.specs.Choice.{Choice, Choice.whole_code, Choice.selection}
 
 abbrev pub choice_of : LentChoice → Choice
 choice_of WholeCode = whole_code
-choice_of (Selection blocks shifts) = selection blocks.now shifts.now
+choice_of (Selection s) = selection s.blocks.now s.shifts.now

@@ -2,7 +2,7 @@
 // code is tested, and what is lent, and the columns are numbered.
 #![tactic(auto)]
 
-ghost use Rattle.std.specs.Prelude.{◌≡◌, ℕ, ◌+◌, ◌*◌, ◌≤◌, ◌<◌, ◌/◌, eqb, length, take};
+ghost use Rattle.std.specs.Prelude.{◌≡◌, ℕ, ◌+◌, ◌*◌, ◌≤◌, ◌<◌, ◌/◌, eqb, length, replicate, take};
 ghost use Rattle.algebra.specs.Distinct.{distinct};
 ghost use Rattle.algebra.specs.Tabulate.{tabulate};
 ghost use Rattle.algebra.specs.Xor.{◌⊕◌};
@@ -23,14 +23,18 @@ use params::{Parameters, check_code};
 use refusals::{Refusal, Rule};
 use slices::LONGEST;
 
-// Which columns of a code the places stand for: all of them in their order, or those of some of its blocks, with a shift for each.
+// Some of a code's blocks, with a shift for each.
+#[derive(Clone, Copy)]
+pub struct Selection<'a> {
+    pub blocks: &'a [u32],
+    pub shifts: &'a [u32],
+}
+
+// Which columns of a code the places stand for: all of them in their order, or those of a selection.
 #[derive(Clone, Copy)]
 pub enum Choice<'a> {
     WholeCode,
-    Selection {
-        blocks: &'a [u32],
-        shifts: &'a [u32],
-    },
+    Selection(Selection<'a>),
 }
 
 // Whether what is lent to a call has its length: what has an entry for each place, hidden or sent, and others, whose lengths the code alone tells.
@@ -40,14 +44,31 @@ pub struct Lengths {
     pub places: bool,
 }
 
-// The columns of a whole code of length n: place j is column j.
-pub fn number_columns(n: usize, columns: &mut [Column])
-    requires { (n ≤ length columns.old) × (n ≤ longest) }
-    ensures { take n columns.new ≡ whole n }
+// Room for what the beginning of a call finds: the inverses of the signature's entries, and the columns.
+#[derive(Drop)]
+pub struct Room {
+    pub inverses: [Elem; LONGEST],
+    pub columns: [Column; LONGEST],
+}
+
+impl Room {
+    pub fn new() -> Room
+        ensures { (result.inverses ≡ replicate longest 0) × (result.columns ≡ replicate longest 0) }
+    {
+        Room {
+            inverses: [0; LONGEST],
+            columns: [0; LONGEST],
+        }
+    }
+}
+
+// The columns of a whole code, as many as the list holds: place j is column j.
+pub fn number_columns(columns: &mut [Column])
+    requires { length columns.old ≤ longest }
+    ensures { columns.new ≡ whole (length columns.old) }
 {
-    // By index: the index itself is stored.
-    for j in 0..n {
-        columns[j] = j as Column;
+    for (j, column) in columns.iter_mut().enumerate() {
+        *column = j as Column;
     }
 }
 
@@ -65,33 +86,25 @@ pub fn is_all_places(c: Parameters, choice: Choice<'_>, long: usize) -> bool
 {
     match choice {
         Choice::WholeCode => long == c.n as usize,
-        Choice::Selection { blocks, shifts: _ } => is_parts_length(
-            long,
-            blocks.len(),
-            c.t as usize,
-        ),
+        Choice::Selection(s) => is_parts_length(long, s.blocks.len(), c.t as usize),
     }
 }
 
-// Begins a call: the code is tested, and what is lent, and the chosen columns are numbered, at the front of `columns`; gives how many they are. Where
-// the call is not refused `inverses` begins with the inverses of the signature's entries.
+// Begins a call: the code is tested, and what is lent, and the chosen columns are numbered, at the front of the room for columns; gives how many they
+// are. Where the call is not refused the inverses in the room are those of the signature's entries.
 pub fn choose_columns(
     c: Parameters,
     h: &[Elem],
     choice: Choice<'_>,
     lent: Lengths,
-    inverses: &mut [Elem],
-    columns: &mut [Column],
+    room: &mut Room,
 ) -> Result<usize, Refusal>
-    requires { (longest ≤ length inverses.old) × (longest ≤ length columns.old) }
-    ensures listed { Listed c h.now (choice_of choice.entry) lent.others lent.places columns.new result }
-    ensures by_index { (k : ℕ) → result ≡ Count k → Inverted c.m h.now inverses.new }
+    ensures listed { Listed c h.now (choice_of choice.entry) lent.others lent.places room.new.columns result }
+    ensures by_index { (k : ℕ) → result ≡ Count k → Inverted c.m h.now room.new.inverses }
 {
     match choice {
-        Choice::WholeCode => whole_columns(c, h, lent, inverses, columns),
-        Choice::Selection { blocks, shifts } => {
-            selected_columns(c, h, blocks, shifts, lent, inverses, columns)
-        }
+        Choice::WholeCode => whole_columns(c, h, lent, room),
+        Choice::Selection(s) => selected_columns(c, h, s, lent, room),
     }
 }
 
@@ -100,16 +113,14 @@ fn whole_columns(
     c: Parameters,
     h: &[Elem],
     lent: Lengths,
-    inverses: &mut [Elem],
-    columns: &mut [Column],
+    room: &mut Room,
 ) -> Result<usize, Refusal>
-    requires { (longest ≤ length inverses.old) × (longest ≤ length columns.old) }
-    ensures listed { Listed c h.now whole_code lent.others lent.places columns.new result }
-    ensures by_index { (k : ℕ) → result ≡ Count k → Inverted c.m h.now inverses.new }
+    ensures listed { Listed c h.now whole_code lent.others lent.places room.new.columns result }
+    ensures by_index { (k : ℕ) → result ≡ Count k → Inverted c.m h.now room.new.inverses }
 {
-    check_code(c, h, lent.others & lent.places, inverses)?;
+    check_code(c, h, lent.others & lent.places, &mut room.inverses)?;
     let n = c.n as usize;
-    number_columns(n, columns);
+    number_columns(&mut room.columns[..n]);
     Ok(n)
 }
 
@@ -117,40 +128,38 @@ fn whole_columns(
 fn selected_columns(
     c: Parameters,
     h: &[Elem],
-    blocks: &[u32],
-    shifts: &[u32],
+    s: Selection<'_>,
     lent: Lengths,
-    inverses: &mut [Elem],
-    columns: &mut [Column],
+    room: &mut Room,
 ) -> Result<usize, Refusal>
-    requires { (longest ≤ length inverses.old) × (longest ≤ length columns.old) }
-    ensures listed { Listed c h.now (selection blocks.now shifts.now) lent.others lent.places columns.new result }
-    ensures by_index { (k : ℕ) → result ≡ Count k → Inverted c.m h.now inverses.new }
+    ensures listed { Listed c h.now (selection s.entry.blocks.now s.entry.shifts.now) lent.others lent.places room.new.columns result }
+    ensures by_index { (k : ℕ) → result ≡ Count k → Inverted c.m h.now room.new.inverses }
 {
-    check_code(c, h, lent.others, inverses)?;
-    check_selection(c, blocks, shifts, lent.places)?;
+    check_code(c, h, lent.others, &mut room.inverses)?;
+    check_selection(c, s, lent.places)?;
     let t = c.t as usize;
-    select_columns(t, blocks, shifts, columns);
-    Ok(blocks.len() * t)
+    let n = s.blocks.len() * t;
+    select_columns(t, s, &mut room.columns[..n]);
+    Ok(n)
 }
 
 // Whether a selection of an accepted code keeps its rules, where `full` says whether what has an entry for each place has its length.
-fn check_selection(c: Parameters, blocks: &[u32], shifts: &[u32], full: bool) -> Result<(), Refusal>
+fn check_selection(c: Parameters, s: Selection<'_>, full: bool) -> Result<(), Refusal>
     requires { (0 < c.t) × (c.n / c.t ≤ longest) }
-    ensures { result ≡ tested (fault (selection_rules c blocks.now shifts.now full)) }
+    ensures { result ≡ tested (fault (selection_rules c s.entry.blocks.now s.entry.shifts.now full)) }
 {
     let count = c.n / c.t;
-    let long = blocks.len();
-    if !((1 <= long) & (long <= count as usize) & (shifts.len() == long) & full) {
+    let long = s.blocks.len();
+    if !((1..=count as usize).contains(&long) & (s.shifts.len() == long) & full) {
         return Err(Refusal(Rule::Length));
     }
-    if !all_below(count, blocks) {
+    if !all_below(count, s.blocks) {
         return Err(Refusal(Rule::NoSuchBlock));
     }
-    if !named_once(blocks) {
+    if !named_once(s.blocks) {
         return Err(Refusal(Rule::NoSuchBlock));
     }
-    if !all_below(c.t, shifts) {
+    if !all_below(c.t, s.shifts) {
         return Err(Refusal(Rule::Shift));
     }
     Ok(())
@@ -188,14 +197,13 @@ fn column_of(t: usize, block: u32, shift: u32, r: usize) -> Column
 }
 
 // The columns of a selection: place b·t + r is column r ⊕ shifts_b of block blocks_b.
-fn select_columns(t: usize, blocks: &[u32], shifts: &[u32], columns: &mut [Column])
-    requires { Selecting t blocks.now shifts.now × (length blocks.now * t ≤ length columns.old) }
-    ensures { take (length blocks.now * t) columns.new
-        ≡ tabulate (length blocks.now * t) (selected_column t blocks.now shifts.now) }
+fn select_columns(t: usize, s: Selection<'_>, columns: &mut [Column])
+    requires { Selecting t s.blocks.now s.shifts.now × (length columns.old ≡ length s.blocks.now * t) }
+    ensures { columns.new ≡ tabulate (length columns.old) (selected_column t s.entry.blocks.now s.entry.shifts.now) }
 {
     // By index: block and row are told from the place.
-    for j in 0..blocks.len() * t {
+    for (j, column) in columns.iter_mut().enumerate() {
         let b = j / t;
-        columns[j] = column_of(t, blocks[b], shifts[b], j % t);
+        *column = column_of(t, s.blocks[b], s.shifts[b], j % t);
     }
 }

@@ -3,10 +3,12 @@ use mathlib.Core.Path.{◌≡◌, sym, ap, ◌∙◌}
 use mathlib.Core.List.{List}
 use Prim.Native.Nat.{ℕ}
 use lib.Dec.{lit<, lit≤}
-use lib.ListN.{length, get_or, set}
+use lib.ListN.{length, get_or, set, replicate}
+use Rattle.std.proofs.lemmas.List.{length-replicate, get_or-replicate}
 use Rattle.algebra.specs.Lists.{entry}
 use Rattle.algebra.specs.Sum.{sum}
 use Rattle.algebra.specs.Tabulate.{tabulate}
+use Rattle.algebra.specs.TabulateLaws.{tabulate_cong, tabulate-get_or}
 use Rattle.algebra.specs.Filling.{filling_start, filling_turn, filling_end}
 use Rattle.algebra.specs.Xor.{◌⊕◌}
 use Rattle.algebra.specs.XorLaws.{zero-⊕}
@@ -54,10 +56,16 @@ cleared l f =
       elements_b = f.elements_b;
     }
 
-pub into_cleared : {m : ℕ} {a b out zeros written : List ℕ} → Factors m a b out → zeros ≡ tabulate (length out) (λ (i : ℕ). 0)
+block_of_zeros : (n : ℕ) → replicate {A = ℕ} n 0 ≡ tabulate n (λ (i : ℕ). 0)
+block_of_zeros n =
+    sym (tabulate-get_or (replicate n 0) 0)
+    ∙ ap (λ (k : ℕ). tabulate k (λ i. get_or (replicate n 0) i 0)) (length-replicate n 0)
+    ∙ tabulate_cong n (λ i l. get_or-replicate n i 0 0 l)
+
+pub into_cleared : {m : ℕ} {a b out zeros written : List ℕ} → Factors m a b out → zeros ≡ replicate (length out) 0
     → written ≡ block_sum (gf m) zeros (block_product (gf m) a b) → written ≡ block_product (gf m) a b
-into_cleared {m} {a} {b} f z e =
+into_cleared {m} {a} {b} {out} f z e =
     e
     ∙ ap (λ (x : List ℕ). block_sum (gf m) x (block_product (gf m) a b))
-    (z ∙ ap (λ (n : ℕ). tabulate n (λ (i : ℕ). 0)) (f.length_out ∙ sym (length_product (gf m) a b ∙ f.length_a)))
+    (z ∙ block_of_zeros (length out) ∙ ap (λ (n : ℕ). tabulate n (λ (i : ℕ). 0)) (f.length_out ∙ sym (length_product (gf m) a b ∙ f.length_a)))
     ∙ zero_sum (gf m) (gf_laws m f.width) (block_product (gf m) a b)

@@ -19,6 +19,7 @@ pub fn sum(a: &[Elem], b: &[Elem], out: &mut [Elem])
     requires { (length b.now ≡ length a.now) × (length out.old ≡ length a.now) }
     ensures { (m : ℕ) → out.new ≡ block_sum (gf m) a.now b.now }
 {
+    // In one pass: a copy and `add` make the call 2 to 7 percent slower, by instructions.
     for (i, entry) in out.iter_mut().enumerate() {
         *entry = a[i] ^ b[i];
     }
@@ -29,9 +30,7 @@ pub fn add(value: &mut [Elem], other: &[Elem])
     requires { length other.now ≡ length value.old }
     ensures { (m : ℕ) → value.new ≡ block_sum (gf m) value.old other.now }
 {
-    for (i, entry) in value.iter_mut().enumerate() {
-        *entry ^= other[i];
-    }
+    slices::add(other, value);
 }
 
 // The sum of a block's elements, which is the same at every width.
@@ -41,21 +40,15 @@ pub fn total(a: &[Elem]) -> Elem
     a.iter().fold(0, |sum, x| sum ^ *x)
 }
 
-// Every entry divided by c.
-pub fn divide(m: u32, a: &[Elem], c: Elem, out: &mut [Elem])
-    requires { Width m × Elements m a.now × (c < 2 ^ m) × (length out.old ≡ length a.now) }
-    ensures { out.new ≡ quotient (gf m) a.now c }
+// Divides every entry by c.
+pub fn divide(m: u32, c: Elem, block: &mut [Elem])
+    requires { Width m × (c < 2 ^ m) × Elements m block.old }
+    ensures { block.new ≡ quotient (gf m) block.old c }
 {
     let factor = field::internal::inverse(m, c);
-    for (i, entry) in out.iter_mut().enumerate() {
-        *entry = field::internal::product(m, a[i], factor);
+    for entry in block.iter_mut() {
+        *entry = field::internal::product(m, *entry, factor);
     }
-}
-
-pub fn clear(out: &mut [Elem])
-    ensures { out.new ≡ tabulate (length out.old) (λ (i : ℕ). 0) }
-{
-    out.fill(0);
 }
 
 // Adds the product of two blocks to what stands in out, and gives the number of products of elements that this took.
@@ -109,6 +102,7 @@ fn add_single(m: u32, a: &[Elem], b: &[Elem], out: &mut [Elem]) -> u32
 }
 
 // Adds the high half of a block to its low half, of h elements, which is the same at every width. Done twice it undoes itself.
+// The half is handed over: with h found from the block's length here, a product of blocks takes 6 to 7 percent more instructions.
 fn fold(h: usize, x: &mut [Elem])
     requires { length x.old ≡ h + h }
     ensures { (m : ℕ) → x.new ≡ folded (gf m) h x.old }

@@ -68,7 +68,7 @@ fn check_shape(m: u32, a: &[Elem], n: usize, k: usize) -> Result<(), Refusal>
 fn is_value_count(k: usize) -> bool
     ensures { result ≡ is_value_count k }
 {
-    (2 <= k) & (k <= LONGEST_LOG + 1)
+    (2..=LONGEST_LOG + 1).contains(&k)
 }
 
 // 2^e, where that is no more than the longest length.

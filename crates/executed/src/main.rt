@@ -2,17 +2,21 @@
 // essences. What this prints is compared with the stored output.
 #![tactic(auto)]
 
+ghost use Rattle.std.specs.Prelude.{◌<◌, ◌^◌};
+
 mod essences;
 mod formulas;
 mod pairs;
+mod printed;
 mod short;
 
 use field::Elem;
+use gears::{Lamp, Row};
 use params::Parameters;
-use refusals::Refusal;
+use printed::{Elements, Ones, print_outcome};
 use repair::Recovery;
 use shortened::Setting;
-use std::io;
+use std::{array, io};
 
 // Card T.
 const TOY: [Elem; 16] = [12, 8, 10, 22, 26, 9, 16, 21, 14, 5, 17, 4, 30, 23, 25, 31];
@@ -29,249 +33,131 @@ fn code(m: u32, n: u32, t: u32, omega: u32) -> Parameters {
     Parameters { m, n, t, omega }
 }
 
-fn print(rt: &impl Print, text: &[u8]) -> io::Result<()> {
-    rt.write_all(text)
-}
-
-fn print_number(rt: &impl Print, number: u64) -> io::Result<()> {
-    print!(rt; " {number}")?;
-    Ok(())
-}
-
-fn print_elements(rt: &impl Print, elements: &[Elem]) -> io::Result<()> {
-    for element in elements {
-        print_number(rt, *element as u64)?;
-    }
-    print(rt, b"\n")
-}
-
-// The places that hold 1.
-fn print_ones(rt: &impl Print, word: &[u8]) -> io::Result<()> {
-    for (j, bit) in word.iter().enumerate() {
-        if *bit == 1 {
-            print_number(rt, j as u64)?;
-        }
-    }
-    print(rt, b"\n")
-}
-
-fn print_outcome(rt: &impl Print, outcome: Result<(), Refusal>) -> io::Result<()> {
-    match outcome {
-        Ok(()) => print(rt, b" accepted\n"),
-        Err(refusal) => {
-            print!(rt; " {refusal}\n")?;
-            Ok(())
-        }
-    }
-}
-
-// Prints what refused a call, if anything did, before what it left in its buffers.
-fn print_refusal(rt: &impl Print, outcome: Result<(), Refusal>) -> io::Result<()> {
-    if let Err(refusal) = outcome {
-        print!(rt; " {refusal}\n")?;
-    }
-    Ok(())
-}
-
-fn print_recovery(rt: &impl Print, recovery: Recovery, repaired: &[u8]) -> io::Result<()> {
-    match recovery {
-        Recovery::Repaired(count) => {
-            print(rt, b" repaired bits")?;
-            print_number(rt, count as u64)?;
-            print(rt, b", ones at")?;
-            print_ones(rt, repaired)
-        }
-        Recovery::Refused(refusal) => print_outcome(rt, Err(refusal)),
-    }
-}
-
 fn show_toy(rt: &impl Print) -> io::Result<()> {
     let mut roots: [Elem; 16] = [0; 16];
     let mut support: [Elem; 16] = [0; 16];
     let mut roles: [u8; 16] = [0; 16];
-    let c = toy();
-    print_refusal(
-        rt,
-        codes::check(c, &TOY, &NOTHING, &mut roots, &mut support),
-    )?;
-    let counted = words::roles(c, &TOY, &Setting::whole_code(&NOTHING), &mut roles);
-    print_refusal(rt, counted.map(|_| ()))?;
-    print(rt, b"toy example: support")?;
-    print_elements(rt, &support)?;
-    print(rt, b"toy example: roots")?;
-    print_elements(rt, &roots[..2])?;
-    print(rt, b"toy example: message columns")?;
-    print_ones(rt, &roles)
+    let checked = codes::check(toy(), &TOY, &NOTHING, &mut roots, &mut support);
+    let counted = words::roles(toy(), &TOY, &Setting::whole_code(&NOTHING), &mut roles);
+    print!(rt; "toy example: support")?;
+    print_outcome(rt, checked, Elements(&support))?;
+    println!(rt; "toy example: roots{}", Elements(&roots[..2]))?;
+    print!(rt; "toy example: message columns")?;
+    print_outcome(rt, counted.map(|_| ()), Ones(&roles))
 }
 
-fn show_repair(rt: &impl Print, received: &[u8]) -> io::Result<()> {
-    let mut repaired: [u8; 16] = [0; 16];
-    let s = Setting::whole_code(&NOTHING);
-    let recovery = repair::repair(toy(), &TOY, &s, received, &mut repaired);
-    print_recovery(rt, recovery, &repaired)
+// What a word of N places is repaired to.
+fn show_repair<const N: usize>(
+    rt: &impl Print,
+    s: &Setting<'_>,
+    received: [u8; N],
+) -> io::Result<()> {
+    let mut repaired: [u8; N] = [0; N];
+    match repair::repair(toy(), &TOY, s, &received, &mut repaired) {
+        Recovery::Repaired(count) => {
+            println!(rt; " repaired bits {count}, ones at{}", Ones(&repaired))
+        }
+        Recovery::Refused(refusal) => println!(rt; " {refusal}"),
+    }
 }
 
-// The word with one place turned; past the end there is none to turn.
-fn turned(word: [u8; 16], place: usize) -> [u8; 16] {
+// A word, or marks, with places turned; past the end there is none to turn.
+fn turned<const N: usize>(word: [u8; N], places: &[usize]) -> [u8; N] {
     let mut received = word;
-    if place < 16 {
-        let bit = received[place];
-        received[place] = 1 - bit % 2;
+    for place in places {
+        if let Some(bit) = received.get_mut(*place) {
+            *bit ^= 1;
+        }
     }
     received
 }
 
-fn show_row(rt: &impl Print) -> io::Result<()> {
+// The word of a row in N places, and what it is repaired to with two of them turned. N is bounded, since only an array of less than 2^63 bytes is lent
+// as a slice, and no argument here is an array of that length.
+fn show_row<const N: usize>(rt: &impl Print, s: &Setting<'_>) -> io::Result<()>
+    requires { N < 2 ^ 32 }
+{
+    let row = Row {
+        gear: 1,
+        lamp: Lamp::Dark,
+    };
+    let mut word: [u8; N] = [0; N];
+    let written = rows::write_row(toy(), &TOY, s, row.gear, row.lamp.into(), &mut word);
+    print!(rt; "{row}: ones at")?;
+    print_outcome(rt, written, Ones(&word))?;
+    print!(rt; "with 0 and 8 turned:")?;
+    show_repair(rt, s, turned(word, &[0, 8]))
+}
+
+// A row on card T with no place hidden, and a word that is too far from every code word.
+fn show_whole_words(rt: &impl Print) -> io::Result<()> {
     let s = Setting::whole_code(&NOTHING);
-    let mut word: [u8; 16] = [0; 16];
-    print_refusal(rt, rows::write_row(toy(), &TOY, &s, 1, 0, &mut word))?;
-    print(rt, b"first, dark: ones at")?;
-    print_ones(rt, &word)?;
-    let received = turned(turned(word, 0), 8);
-    print(rt, b"with 0 and 8 turned:")?;
-    show_repair(rt, &received)?;
-    let mut far: [u8; 16] = [0; 16];
-    far[1] = 1;
-    far[2] = 1;
-    far[5] = 1;
-    print(rt, b"ones at 1 2 5 only:")?;
-    show_repair(rt, &far)
+    show_row::<16>(rt, &s)?;
+    print!(rt; "ones at 1 2 5 only:")?;
+    show_repair(rt, &s, turned([0; 16], &[1, 2, 5]))
+}
+
+// Whether a signature is accepted, with marks that hide nothing.
+fn print_check<const N: usize>(rt: &impl Print, c: Parameters, h: [Elem; N]) -> io::Result<()> {
+    let mut roots: [Elem; N] = [0; N];
+    let mut support: [Elem; N] = [0; N];
+    let outcome = codes::check(c, &h, &[0; N], &mut roots, &mut support);
+    print_outcome(rt, outcome, " accepted")
 }
 
 // Whether the width m is accepted.
 fn show_width(rt: &impl Print, m: u32) -> io::Result<()> {
-    let h: [Elem; 2] = [1, 2];
-    let mut roots: [Elem; 2] = [0; 2];
-    let mut support: [Elem; 2] = [0; 2];
-    print(rt, b"m")?;
-    print_number(rt, m as u64)?;
-    print(rt, b":")?;
-    print_outcome(
-        rt,
-        codes::check(
-            code(m, 2, 1, 0),
-            &h,
-            &NOTHING[..2],
-            &mut roots,
-            &mut support,
-        ),
-    )
+    print!(rt; "m {m}:")?;
+    print_check(rt, code(m, 2, 1, 0), [1, 2])
 }
 
-// Whether a signature in the field of width m is accepted, n being its length, with marks that hide nothing.
-fn show_length(
-    rt: &impl Print,
-    m: u32,
-    n: u32,
-    h: &[Elem],
-    hidden: &[u8],
-    roots: &mut [Elem],
-    support: &mut [Elem],
-) -> io::Result<()> {
-    print(rt, b"m")?;
-    print_number(rt, m as u64)?;
-    print(rt, b", n")?;
-    print_number(rt, n as u64)?;
-    print(rt, b":")?;
-    print_outcome(
-        rt,
-        codes::check(code(m, n, 1, 0), h, hidden, roots, support),
-    )
+// Whether a signature of N entries in the field of width m is accepted; n is N in 32 bits.
+fn show_length<const N: usize>(rt: &impl Print, m: u32, h: [Elem; N]) -> io::Result<()>
+    requires { N < 2 ^ 32 }
+{
+    print!(rt; "m {m}, n {N}:")?;
+    print_check(rt, code(m, N as u32, 1, 0), h)
 }
 
-// A length that no signature has.
-fn show_length_3(rt: &impl Print) -> io::Result<()> {
-    let h: [Elem; 3] = [1; 3];
-    let mut roots: [Elem; 3] = [0; 3];
-    let mut support: [Elem; 3] = [0; 3];
-    show_length(rt, 9, 3, &h, &NOTHING[..3], &mut roots, &mut support)
-}
-
-// The inverse of an element of the field of width 9.
-fn inverse(a: u32) -> Elem {
-    field::inverse(9, a).unwrap_or(0)
-}
-
-// The signature of 256 entries whose 1/h_i is 256 + i.
+// The signature of 256 entries in the field of width 9 whose 1/h_i is 256 + i.
 fn signature_256() -> [Elem; 256] {
-    let mut h: [Elem; 256] = [0; 256];
-    for (entry, a) in h.iter_mut().zip(256..512u32) {
-        *entry = inverse(a);
-    }
-    h
+    array::from_fn(|i| field::inverse(9, 256 + i as u32).unwrap_or(0))
 }
 
-fn show_length_256(rt: &impl Print) -> io::Result<()> {
-    let h = signature_256();
-    let mut roots: [Elem; 256] = [0; 256];
-    let mut support: [Elem; 256] = [0; 256];
-    let hidden: [u8; 256] = [0; 256];
-    show_length(rt, 9, 256, &h, &hidden, &mut roots, &mut support)
-}
-
-// A length above the longest.
-fn show_length_1024(rt: &impl Print) -> io::Result<()> {
-    let h: [Elem; 1024] = [1; 1024];
-    let mut roots: [Elem; 1024] = [0; 1024];
-    let mut support: [Elem; 1024] = [0; 1024];
-    let hidden: [u8; 1024] = [0; 1024];
-    show_length(rt, 16, 1024, &h, &hidden, &mut roots, &mut support)
+// A length that no signature has, one that is accepted, and one above the longest.
+fn show_lengths(rt: &impl Print) -> io::Result<()> {
+    show_length(rt, 9, [1; 3])?;
+    show_length(rt, 9, signature_256())?;
+    show_length(rt, 16, [1; 1024])
 }
 
 // Whether card A with t roots is accepted.
 fn show_root_count(rt: &impl Print, t: u32) -> io::Result<()> {
-    let h: [Elem; 4] = [7, 2, 3, 4];
-    let mut roots: [Elem; 4] = [0; 4];
-    let mut support: [Elem; 4] = [0; 4];
-    print(rt, b"n 4, t")?;
-    print_number(rt, t as u64)?;
-    print(rt, b":")?;
-    print_outcome(
-        rt,
-        codes::check(
-            code(3, 4, t, 0),
-            &h,
-            &NOTHING[..4],
-            &mut roots,
-            &mut support,
-        ),
-    )
+    print!(rt; "n 4, t {t}:")?;
+    print_check(rt, code(3, 4, t, 0), formulas::A)
 }
 
 // A code whose only code word is zero: k is 0.
 fn show_empty_message(rt: &impl Print) -> io::Result<()> {
-    let h: [Elem; 2] = [1, 2];
-    let message: [u8; 2] = [0; 2];
     let mut word: [u8; 2] = [1; 2];
-    print(rt, b"k 0, the empty message:")?;
-    print_outcome(
-        rt,
-        words::encode(
-            code(2, 2, 1, 0),
-            &h,
-            &Setting::whole_code(&NOTHING[..2]),
-            &message[..0],
-            &mut word,
-        ),
-    )?;
-    print(rt, b"its word has ones at")?;
-    print_ones(rt, &word)
+    let s = Setting::whole_code(&NOTHING[..2]);
+    let outcome = words::encode(code(2, 2, 1, 0), &[1, 2], &s, &[], &mut word);
+    print!(rt; "k 0, the empty message:")?;
+    print_outcome(rt, outcome, " accepted")?;
+    println!(rt; "its word has ones at{}", Ones(&word))
 }
 
 fn main(rt: HostRuntime) -> io::Result<()> {
     show_toy(&rt)?;
-    show_row(&rt)?;
+    show_whole_words(&rt)?;
     pairs::show_pairs(&rt)?;
-    show_width(&rt, 1)?;
-    show_width(&rt, 2)?;
-    show_width(&rt, 9)?;
-    show_width(&rt, 16)?;
-    show_width(&rt, 17)?;
-    show_length_3(&rt)?;
-    show_length_256(&rt)?;
-    show_length_1024(&rt)?;
-    show_root_count(&rt, 2)?;
-    show_root_count(&rt, 4)?;
+    for m in [1, 2, 9, 16, 17] {
+        show_width(&rt, m)?;
+    }
+    show_lengths(&rt)?;
+    for t in [2, 4] {
+        show_root_count(&rt, t)?;
+    }
     show_empty_message(&rt)?;
     short::show_short(&rt)?;
     formulas::show_formulas(&rt)?;

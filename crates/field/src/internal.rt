@@ -21,7 +21,7 @@ const WORDS: [u32; WIDEST as usize + 1] = [
 pub fn is_width(m: u32) -> bool
     ensures { result ≡ is_width m }
 {
-    (NARROWEST <= m) & (m <= WIDEST)
+    (NARROWEST..=WIDEST).contains(&m)
 }
 
 // Whether the number is an element of the field of width m.

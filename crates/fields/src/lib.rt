@@ -1,4 +1,5 @@
-// Numbers in fields of text, and lines of them.
+// Numbers in fields of text, and lines of them. A text is read and written at a place in it, as the definitions speak of it: of a slice they would have
+// to say anew where it stands. A text is tested whole before a number is read from it, so that reading one cannot fail.
 #![tactic(auto)]
 
 ghost use Rattle.std.specs.Prelude.{◌≡◌, true, ◌+◌, ◌*◌, ◌≤◌, length};
@@ -30,6 +31,7 @@ fn put_lead(value: u32, count: usize, at: usize, out: &mut [u8])
     ensures { out.new ≡ written out.old at (lead_text count value) }
 {
     let mut rest = value;
+    // By index, from the end: std says nothing of what is written after `iter_mut().rev()`.
     for i in (0..count).rev() {
         out[at + i] = lead_byte(rest);
         rest /= 10;
@@ -82,6 +84,7 @@ fn is_number(text: &[u8], at: usize) -> bool
     }
     let mut printed: [u8; FIELD] = [0; FIELD];
     put_number(v, 0, &mut printed);
+    // Byte by byte: `==` on the slices makes the test of a line a fifth slower.
     text[at..at + FIELD]
         .iter()
         .zip(&printed)
@@ -93,6 +96,7 @@ pub fn is_line(text: &[u8], at: usize, count: usize) -> bool
     requires { at + line_length count ≤ length text.now }
     ensures { result ≡ is_line text.now at count }
 {
+    // By number: the library has no lemma that tells the list of what `chunks_exact` yields, and `is_number` would have to ask for each piece's length.
     (0..count).all(|i| is_number(text, at + i * FIELD)) && text[at + count * FIELD] == b'\n'
 }
 

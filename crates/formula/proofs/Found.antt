@@ -14,10 +14,10 @@ use Rattle.dyadic.specs.Block.{block_sum, block_product, block_inverse}
 use Rattle.formula.specs.declared.evaluators.Cursor.{Cursor}
 use Rattle.formula.specs.Letters.{Lent, is_lent, plus_byte, times_byte, over_byte, open_byte, close_byte}
 use Rattle.dyadic.specs.Invertible.{is_invertible}
-use Rattle.formula.specs.Callers.{Ready, LetterIs, Fetched}
+use Rattle.formula.specs.Callers.{Ready, BlockIs, LentFor}
 use Rattle.formula.specs.Parser.{multiplied, divided}
 use Rattle.formula.proofs.Passing.{product_times, product_over}
-use Rattle.std.specs.Prelude.{Some, None}
+use Rattle.std.specs.Prelude.{Option, Some, None}
 use Rattle.formula.specs.Evaluated.{Found, Kind, sums, products, terms, Held, Ends, NoneAt, OnFound, Finds, Moves}
 use Rattle.formula.proofs.Steps.{on, held_letter, held_bracket, held_term, held_product, held_times, held_over, held_plus}
 use Rattle.formula.proofs.Steps.{term_moves, product_moves}
@@ -54,16 +54,16 @@ none_there {K} {E} {m} {β} {k} {text} {from} {value} z none =
 module _ {m : ℕ} {β : Lent} {k : ℕ} {text : List ℕ} {from : Cursor} where
   -- ---- terms
 
-  pub letter_read : {n byte : ℕ} {value : List ℕ} {r : Bool} → Ready m β n → byte ≡ get_or text from.at 0 → Fetched β byte value r → r ≡ true
-      → Held terms m β k text from (on from) value
-  letter_read {byte = byte} {value} {r} ready e f t =
-      let (l, b, lent, v) = subst (LetterIs β byte value) t f.fetched in
-      held_letter m β text k from l (sym e ∙ b) lent v (subst (Elements m) (sym v) (ready.elements l))
+  pub letter_read : {n byte : ℕ} {value block : List ℕ} {r : Option (List ℕ)} → Ready m β n → byte ≡ get_or text from.at 0 → LentFor β byte r
+      → r ≡ Some block → value ≡ block → Held terms m β k text from (on from) value
+  letter_read {byte = byte} {value} {block} {r} ready e f z copied =
+      let (l, b, lent, v) = subst (BlockIs β byte) z f.block in
+      let worth = copied ∙ v in
+      held_letter m β text k from l (sym e ∙ b) lent worth (subst (Elements m) (sym worth) (ready.elements l))
 
-  pub letter_none : {byte : ℕ} {value new : List ℕ} {r : Bool} → byte ≡ get_or text from.at 0 → byte ≢ open_byte → Fetched β byte new r → r ≡ false
-      → Finds terms terms m β k text from value None
-  letter_none {byte = byte} {new = new} {r} e ne f t =
-      record { found = no_letter m β text k from.at e ne (subst (LetterIs β byte new) t f.fetched) }
+  pub letter_none : {byte : ℕ} {new : List ℕ} {r : Option (List ℕ)} {r' : Found} → byte ≡ get_or text from.at 0 → byte ≢ open_byte → LentFor β byte r
+      → r ≡ None → r' ≡ None → Finds terms terms m β k text from new r'
+  letter_none {byte = byte} {r = r} e ne f z z' = none_there z' (no_letter m β text k from.at e ne (subst (BlockIs β byte) z f.block))
 
   -- with the marks after it
   pub marks_read : (last : Cursor) {next to : Cursor} {value new : List ℕ} → Held terms m β k text from (on last) value → next ≡ on last

@@ -8,3 +8,4 @@ pub mod Steps
 pub mod Tokens
 pub mod ValueLaws
 pub mod Written
+pub mod LetterLaws

@@ -1,5 +1,5 @@
--- What the evaluators ask of their callers: a width, a length and blocks that have been checked.
-use Rattle.std.specs.Prelude.{◌≡◌, Bool, true, false, List, ℕ, ◌^◌, ◌≤◌, length}
+-- What the evaluators are handed: a width, a length and blocks that have been checked.
+use Rattle.std.specs.Prelude.{◌≡◌, true, false, List, ℕ, ◌^◌, ◌≤◌, length, Option, Some, None}
 use Rattle.field.specs.Gf.{Width}
 use Rattle.slices.specs.Lengths.{longest}
 use Rattle.slices.specs.Elements.{Elements}
@@ -18,10 +18,10 @@ pub record Ready (m : ℕ) (β : Lent) (n : ℕ) : Type 0 where
   pub sized : Sized n β
   pub elements : (l : Letter) → Elements m (block_of β l)
 
-abbrev pub LetterIs : Lent → ℕ → List ℕ → Bool → Type 0
-LetterIs β byte new true = (l : Letter) × (byte ≡ letter_byte l) × (is_lent β l ≡ true) × (new ≡ block_of β l)
-LetterIs β byte new false = (l : Letter) → byte ≡ letter_byte l → is_lent β l ≡ false
+abbrev pub BlockIs : Lent → ℕ → Option (List ℕ) → Type 0
+BlockIs β byte (Some block) = (l : Letter) × (byte ≡ letter_byte l) × (is_lent β l ≡ true) × (block ≡ block_of β l)
+BlockIs β byte None = (l : Letter) → byte ≡ letter_byte l → is_lent β l ≡ false
 
--- whether a byte is a letter for which a block is lent; that block is what then stands in the buffer
-pub record Fetched (β : Lent) (byte : ℕ) (new : List ℕ) (r : Bool) : Type 0 where
-  pub fetched : LetterIs β byte new r
+-- the block that is lent for a byte, where the byte is a letter and one is lent for it
+pub record LentFor (β : Lent) (byte : ℕ) (r : Option (List ℕ)) : Type 0 where
+  pub block : BlockIs β byte r

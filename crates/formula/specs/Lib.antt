@@ -1,5 +1,6 @@
 pub mod Letters
 pub mod Lending
+pub mod OfLetters
 pub mod Grammar
 pub mod Reading
 pub mod Value

@@ -10,11 +10,10 @@ ghost use Rattle.field.specs.Gf.{Width};
 ghost use Rattle.slices.specs.Elements.{Elements};
 ghost use Rattle.formula.specs.declared.evaluators.Cursor.{Cursor};
 ghost use Rattle.formula.specs.Letters.{Lent, plus_byte, times_byte, over_byte};
-ghost use Rattle.formula.specs.Lending.{lent};
-ghost use Rattle.formula.specs.Callers.{Ready};
+ghost use Rattle.formula.specs.OfLetters.{OfLetters};
 ghost use Rattle.formula.specs.Evaluated.{sums, products, terms, Held, Ends, Finds, Moves};
 
-use crate::values::{self, Blocks};
+use crate::values::{self, Letters};
 use field::Elem;
 use refusals::{Refusal, Rule};
 use slices::LONGEST;
@@ -52,24 +51,22 @@ fn is_operator(byte: u8) -> bool
 }
 
 // Each evaluator reads the text from a place on, puts the block of what it reads into `value`, and answers the place after it, or None where the text is
-// no formula; `brackets` may still be opened.
+// no formula; `brackets` may still be opened. The text goes beside the letters, as in the definitions: it is read, and they are what it stands for.
 #[cycle(evaluators)]
 pub fn sum(
-    m: u32,
     text: &[u8],
-    blocks: &Blocks,
+    letters: &Letters,
     brackets: u32,
     from: Cursor,
     value: &mut [Elem],
 ) -> Option<Cursor>
-    requires { Ready m (lent blocks.now) (length value.old) }
-    ensures { Finds sums sums m (lent blocks.now) brackets
-        text.now from value.new result }
+    requires { length value.old ≡ letters.now.size }
+    ensures { OfLetters (Finds sums sums) letters.now brackets text.now from value.new result }
 {
-    let mut cursor = product(m, text, blocks, brackets, from, value)?;
+    let mut cursor = product(text, letters, brackets, from, value)?;
     // Nothing counts here: the cursor moves as far as a product is read.
     while byte_at(text, cursor.at) == b'+' {
-        cursor = add_product(m, text, blocks, brackets, cursor, value)?;
+        cursor = add_product(text, letters, brackets, cursor, value)?;
     }
     Some(cursor)
 }
@@ -77,25 +74,22 @@ pub fn sum(
 // The product after a +, added to the sum that stands before it.
 #[cycle(evaluators)]
 fn add_product(
-    m: u32,
     text: &[u8],
-    blocks: &Blocks,
+    letters: &Letters,
     brackets: u32,
     from: Cursor,
     value: &mut [Elem],
 ) -> Option<Cursor>
-    requires ready { Ready m (lent blocks.now) (length value.old) }
+    requires value_len { length value.old ≡ letters.now.size }
     requires at_value { get_or text.now from.at 0 ≡ plus_byte }
     ensures finds { (start : Cursor)
-        → Held sums m (lent blocks.now) brackets
-        text.now start from value.old
-        → Finds sums products m (lent blocks.now) brackets
-        text.now start value.new result }
+        → OfLetters (Held sums) letters.now brackets text.now start from value.old
+        → OfLetters (Finds sums products) letters.now brackets text.now start value.new result }
     ensures moves { Moves from.at result }
 {
     let mut room: [Elem; LONGEST] = [0; LONGEST];
     let s = value.len();
-    let found = product(m, text, blocks, brackets, after(from), &mut room[..s]);
+    let found = product(text, letters, brackets, after(from), &mut room[..s]);
     // Where nothing was found, what the value becomes is of no use to anyone.
     dyadic::add(value, &room[..s]);
     found
@@ -103,21 +97,19 @@ fn add_product(
 
 #[cycle(evaluators)]
 fn product(
-    m: u32,
     text: &[u8],
-    blocks: &Blocks,
+    letters: &Letters,
     brackets: u32,
     from: Cursor,
     value: &mut [Elem],
 ) -> Option<Cursor>
-    requires { Ready m (lent blocks.now) (length value.old) }
-    ensures { Finds products products m (lent blocks.now) brackets
-        text.now from value.new result }
+    requires { length value.old ≡ letters.now.size }
+    ensures { OfLetters (Finds products products) letters.now brackets text.now from value.new result }
 {
-    let mut cursor = term(m, text, blocks, brackets, from, value)?;
+    let mut cursor = term(text, letters, brackets, from, value)?;
     // As in `sum`, as far as a term is read.
     while is_operator(byte_at(text, cursor.at)) {
-        cursor = multiply_term(m, text, blocks, brackets, cursor, value)?;
+        cursor = multiply_term(text, letters, brackets, cursor, value)?;
     }
     Some(cursor)
 }
@@ -125,31 +117,28 @@ fn product(
 // The term after a * or a /, by which the product that stands before it is multiplied or divided.
 #[cycle(evaluators)]
 fn multiply_term(
-    m: u32,
     text: &[u8],
-    blocks: &Blocks,
+    letters: &Letters,
     brackets: u32,
     from: Cursor,
     value: &mut [Elem],
 ) -> Option<Cursor>
-    requires ready { Ready m (lent blocks.now) (length value.old) }
-    requires over_byte_value { ((eqb (get_or text.now from.at 0) times_byte || eqb (get_or text.now from.at 0) over_byte) ≡ true) × Elements m value.old }
+    requires value_len { length value.old ≡ letters.now.size }
+    requires over_byte_value { ((eqb (get_or text.now from.at 0) times_byte || eqb (get_or text.now from.at 0) over_byte) ≡ true) × Elements letters.now.m value.old }
     ensures finds { (start : Cursor)
-        → Held products m (lent blocks.now) brackets
-        text.now start from value.old
-        → Finds products terms m (lent blocks.now) brackets
-        text.now start value.new result }
+        → OfLetters (Held products) letters.now brackets text.now start from value.old
+        → OfLetters (Finds products terms) letters.now brackets text.now start value.new result }
     ensures moves { Moves from.at result }
 {
     let mut room: [Elem; LONGEST] = [0; LONGEST];
     let s = value.len();
-    let end = term(m, text, blocks, brackets, after(from), &mut room[..s])?;
+    let end = term(text, letters, brackets, after(from), &mut room[..s])?;
     let times = byte_at(text, from.at) == b'*';
     if times {
-        values::multiply(m, value, &mut room[..s]);
+        values::multiply(letters.m, value, &mut room[..s]);
         return Some(end);
     }
-    let exists = values::divide(m, value, &mut room[..s]);
+    let exists = values::divide(letters.m, value, &mut room[..s]);
     Some(Cursor {
         at: end.at,
         exists: end.exists & exists,
@@ -163,6 +152,7 @@ fn marks(m: u32, text: &[u8], from: Cursor, value: &mut [Elem]) -> Cursor
         → Held terms m β k text.now start result value.new) × Ends terms (get_or text.now result.at 0) }
 {
     let mut cursor = from;
+    // As in `sum`, as far as there are marks.
     while byte_at(text, cursor.at) == b'\'' {
         let exists = values::invert(m, value);
         cursor = Cursor {
@@ -175,32 +165,29 @@ fn marks(m: u32, text: &[u8], from: Cursor, value: &mut [Elem]) -> Cursor
 
 #[cycle(evaluators)]
 fn term(
-    m: u32,
     text: &[u8],
-    blocks: &Blocks,
+    letters: &Letters,
     brackets: u32,
     from: Cursor,
     value: &mut [Elem],
 ) -> Option<Cursor>
-    requires { Ready m (lent blocks.now) (length value.old) }
-    ensures { Finds terms terms m (lent blocks.now) brackets
-        text.now from value.new result }
+    requires { length value.old ≡ letters.now.size }
+    ensures { OfLetters (Finds terms terms) letters.now brackets text.now from value.new result }
 {
     let byte = byte_at(text, from.at);
     if byte != b'(' {
-        if !values::letter(byte, blocks, value) {
-            return None;
-        }
-        return Some(marks(m, text, after(from), value));
+        let block = letters.lent(byte)?;
+        value.copy_from_slice(block);
+        return Some(marks(letters.m, text, after(from), value));
     }
     if brackets == 0 {
         return None;
     }
-    let inner = sum(m, text, blocks, brackets - 1, after(from), value)?;
+    let inner = sum(text, letters, brackets - 1, after(from), value)?;
     if byte_at(text, inner.at) != b')' {
         return None;
     }
-    Some(marks(m, text, after(inner), value))
+    Some(marks(letters.m, text, after(inner), value))
 }
 
 // Whether a text of this length that was read up to the cursor is a formula, and every inverse that it asks for exists.

@@ -13,7 +13,6 @@ ghost use Rattle.field.specs.Gf.{Width};
 ghost use Rattle.slices.specs.Elements.{all_elements};
 ghost use Rattle.formula.specs.Letters.{lending};
 ghost use Rattle.formula.specs.Lending.{lent};
-ghost use Rattle.formula.specs.Callers.{Ready};
 ghost use Rattle.formula.specs.Answers.{fits_buffer, every, lent_fault, Answered};
 ghost use Rattle.formula.specs.Evaluated.{Worked};
 
@@ -21,7 +20,7 @@ use evaluators::Cursor;
 use field::Elem;
 use refusals::{Refusal, Rule};
 use slices::{LONGEST, all_elements};
-use values::Blocks;
+use values::{Blocks, Letters};
 
 // The longest text, in bytes.
 const LONGEST_TEXT: usize = 128;
@@ -44,17 +43,18 @@ pub fn formula(
 {
     let blocks = Blocks { a, b, c, d };
     check_lent(m, &blocks, out.len())?;
-    let mut value: [Elem; LONGEST] = [0; LONGEST];
     let s = out.len();
-    evaluate(m, text, &blocks, &mut value[..s])?;
+    let letters = Letters { m, size: s, blocks };
+    let mut value: [Elem; LONGEST] = [0; LONGEST];
+    evaluate(text, &letters, &mut value[..s])?;
     out.copy_from_slice(&value[..s]);
     Ok(())
 }
 
 // Whether the text is a formula, and every inverse that it asks for exists; the block is then the value.
-fn evaluate(m: u32, text: &[u8], blocks: &Blocks, value: &mut [Elem]) -> Result<(), Refusal>
-    requires { Ready m (lent blocks.now) (length value.old) }
-    ensures { Worked m text.now (lent blocks.now) result
+fn evaluate(text: &[u8], letters: &Letters, value: &mut [Elem]) -> Result<(), Refusal>
+    requires { length value.old ≡ letters.now.size }
+    ensures { Worked letters.now.m text.now (lent letters.now.blocks) result
         value.new }
 {
     if LONGEST_TEXT < text.len() {
@@ -64,7 +64,7 @@ fn evaluate(m: u32, text: &[u8], blocks: &Blocks, value: &mut [Elem]) -> Result<
         at: 0,
         exists: true,
     };
-    let Some(end) = evaluators::sum(m, text, blocks, DEEPEST, start, value) else {
+    let Some(end) = evaluators::sum(text, letters, DEEPEST, start, value) else {
         return Err(Refusal(Rule::NoFormula));
     };
     evaluators::check_end(end, text.len())

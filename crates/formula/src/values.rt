@@ -1,12 +1,15 @@
 // Blocks worked in place, as the evaluators need it: the result takes the place of `value`.
-ghost use Rattle.std.specs.Prelude.{◌≡◌, true, not, eqb, length};
+ghost use Rattle.std.specs.Prelude.{◌≡◌, ◌≤◌, true};
+ghost use Rattle.std.specs.Option.{option_copied};
 ghost use Rattle.field.specs.Gf.{Width, gf};
 ghost use Rattle.slices.specs.Elements.{Elements};
+ghost use Rattle.slices.specs.Lengths.{longest, is_power};
 ghost use Rattle.dyadic.specs.Block.{block_product, block_inverse};
 ghost use Rattle.dyadic.specs.Callers.{Factors};
+ghost use Rattle.formula.specs.Letters.{Letter, block_of};
 ghost use Rattle.formula.specs.Lending.{lent};
 ghost use Rattle.dyadic.specs.Invertible.{is_invertible};
-ghost use Rattle.formula.specs.Callers.{Sized, Fetched};
+ghost use Rattle.formula.specs.Callers.{Sized, LentFor};
 
 use field::Elem;
 use field::internal::product;
@@ -21,30 +24,34 @@ pub struct Blocks<'a> {
     pub d: &'a [Elem],
 }
 
-// Whether the byte is a letter for which a block is lent, which is then the value.
-pub fn letter(byte: u8, blocks: &Blocks, value: &mut [Elem]) -> bool
-    requires { Sized (length value.old) (lent blocks.now) }
-    ensures { Fetched (lent blocks.now) byte value.new result }
-{
-    match byte {
-        b'A' => fetch(blocks.a, value),
-        b'B' => fetch(blocks.b, value),
-        b'C' => fetch(blocks.c, value),
-        b'D' => fetch(blocks.d, value),
-        _ => false,
-    }
+// What the letters of a formula stand for: blocks that are lent and have passed the tests of the call. They are of the field of width m, and each has
+// `size` elements, a power of two, as has every buffer that a part of the formula is worked out in.
+#[derive(Clone, Copy)]
+pub struct Letters<'a> {
+    pub m: u32,
+    pub size: usize,
+    pub blocks: Blocks<'a>,
+    ghost width: { Width m },
+    ghost power: { is_power size ≡ true },
+    ghost room: { size ≤ longest },
+    ghost sized: { Sized size (lent blocks) },
+    ghost elements: { (l : Letter) → Elements m (block_of (lent blocks) l) },
 }
 
-// Whether a block is lent, which is then the value.
-fn fetch(block: &[Elem], value: &mut [Elem]) -> bool
-    requires { not (eqb (length block.now) 0) ≡ true → length block.now ≡ length value.old }
-    ensures { (result ≡ not (eqb (length block.now) 0)) × (result ≡ true → value.new ≡ block.now) }
-{
-    if block.is_empty() {
-        return false;
+impl<'a> Letters<'a> {
+    // The block that is lent for a letter.
+    pub fn lent(&self, byte: u8) -> Option<&'a [Elem]>
+        ensures { LentFor (lent self.now.blocks) byte (option_copied result) }
+    {
+        let block = match byte {
+            b'A' => self.blocks.a,
+            b'B' => self.blocks.b,
+            b'C' => self.blocks.c,
+            b'D' => self.blocks.d,
+            _ => &[],
+        };
+        (!block.is_empty()).then_some(block)
     }
-    value.copy_from_slice(block);
-    true
 }
 
 // The product with another block, which is written to on the way and is then as it was.
@@ -56,21 +63,18 @@ pub fn multiply(m: u32, value: &mut [Elem], other: &mut [Elem])
     let mut room: [Elem; LONGEST] = [0; LONGEST];
     let s = value.len();
     room[..s].copy_from_slice(value);
-    dyadic::clear(value);
+    value.fill(0);
     dyadic::add_by_halves(m, &mut room[..s], other, value);
 }
 
-// The inverse, and whether there is one: without one the value becomes zeros, since the inverse of 0 is 0.
+// The inverse, and whether there is one: without one the value becomes zeros, since the inverse of 0 is 0. No Option, since the reading goes on with them.
 pub fn invert(m: u32, value: &mut [Elem]) -> bool
     requires { Width m × Elements m value.old }
     ensures value { result ≡ is_invertible m value.old }
     ensures value_after { value.new ≡ block_inverse (gf m) value.old }
 {
     let sum = dyadic::total(value);
-    let factor = field::internal::inverse(m, product(m, sum, sum));
-    for entry in value.iter_mut() {
-        *entry = product(m, *entry, factor);
-    }
+    dyadic::divide(m, product(m, sum, sum), value);
     sum != 0
 }
 

@@ -1,9 +1,11 @@
 // Gear rows and their messages: a gear and a lamp, which rows are allowed, the message of a row, and what a message says.
 #![tactic(auto)]
 
-ghost use Rattle.std.specs.Prelude.{◌≡◌, ◌≤◌, ◌<◌, length};
+ghost use Rattle.std.specs.Prelude.{◌≡◌, ◌↔◌, false, ◌≤◌, ◌<◌, length, IsNone, IfSome};
 ghost use Rattle.algebra.specs.Lists.{entry_of};
 ghost use Rattle.gears.specs.Rows.{is_row, row_bits, row_bit, row_message, gear_in, lamp_in, further_zero, is_row_message, lamp_of, lamp_number, row_of};
+
+use std::fmt;
 
 // The lamps, each with its number in 01.
 #[derive(Clone, Copy, Debug, PartialEq, Eq)]
@@ -21,11 +23,43 @@ impl From<Lamp> for u32 {
     }
 }
 
+impl fmt::Display for Lamp {
+    fn fmt<W: fmt::Write>(&self, f: &mut fmt::Formatter<W>) -> fmt::Result {
+        f.write_str(match self {
+            Lamp::Dark => "dark",
+            Lamp::Green => "green",
+            Lamp::Amber => "amber",
+        })
+    }
+}
+
 // A gear, from neutral to the high neutral, and a lamp.
 #[derive(Clone, Copy, Debug, PartialEq, Eq)]
 pub struct Row {
     pub gear: u32,
     pub lamp: Lamp,
+}
+
+const GEARS: [&str; 8] = [
+    "neutral",
+    "first",
+    "second",
+    "third",
+    "fourth",
+    "fifth",
+    "sixth",
+    "high neutral",
+];
+
+// The row whole, gear then lamp: "first, dark". A gear above the high neutral has no name, and goes by its number.
+impl fmt::Display for Row {
+    fn fmt<W: fmt::Write>(&self, f: &mut fmt::Formatter<W>) -> fmt::Result {
+        let lamp = self.lamp;
+        match GEARS.get(self.gear as usize) {
+            Some(gear) => write!(f, "{gear}, {lamp}"),
+            None => write!(f, "gear {}, {lamp}", self.gear),
+        }
+    }
 }
 
 // The positions of the gearbox go from neutral to the high neutral, which lies between the top two ratios.
@@ -49,12 +83,27 @@ pub fn is_row(gear: u32, lamp: u32) -> bool
     }
 }
 
+impl Row {
+    // The row of a gear and a lamp's number that come from outside, if it is an allowed one: what comes after takes the row, and need not ask again.
+    pub fn allowed(gear: u32, lamp: u32) -> Option<Row>
+        ensures none { IsNone result ↔ (is_row gear lamp ≡ false) }
+        ensures row { IfSome result (λ row. (row.gear ≡ gear) × (lamp_number row.lamp ≡ lamp)) }
+    {
+        if !is_row(gear, lamp) {
+            return None;
+        }
+        let lamp = lamp_of(lamp);
+        Some(Row { gear, lamp })
+    }
+}
+
 // What a row's message holds at a place.
-fn row_bit(gear: u32, lamp: u32, place: usize) -> u8
-    ensures { result ≡ row_bit gear lamp place }
+fn row_bit(row: Row, place: usize) -> u8
+    ensures { result ≡ row_bit row.gear (lamp_number row.lamp) place }
 {
+    let lamp = u32::from(row.lamp);
     if place < GEAR_BITS {
-        return ((gear >> place as u32) % 2) as u8;
+        return ((row.gear >> place as u32) % 2) as u8;
     }
     if place < ROW_BITS {
         return ((lamp >> (place - GEAR_BITS) as u32) % 2) as u8;
@@ -63,11 +112,11 @@ fn row_bit(gear: u32, lamp: u32, place: usize) -> u8
 }
 
 // The message of a row, as long as the buffer is.
-pub fn place_row(gear: u32, lamp: u32, message: &mut [u8])
-    ensures { message.new ≡ row_message (length message.old) gear lamp }
+pub fn place_row(row: Row, message: &mut [u8])
+    ensures { message.new ≡ row_message (length message.old) row.gear (lamp_number row.lamp) }
 {
     for (j, bit) in message.iter_mut().enumerate() {
-        *bit = row_bit(gear, lamp, j);
+        *bit = row_bit(row, j);
     }
 }
 
@@ -100,7 +149,7 @@ fn no_further_bits(message: &[u8]) -> bool
     message[ROW_BITS..].iter().all(|bit| *bit == 0)
 }
 
-// Whether the message is one of an allowed row.
+// Whether the message is one of an allowed row: apart from `row_in`, which promises a row for every message.
 pub fn is_row_message(message: &[u8]) -> bool
     requires { row_bits ≤ length message.now }
     ensures { result ≡ is_row_message message.now }

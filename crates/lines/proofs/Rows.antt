@@ -2,17 +2,9 @@
 use mathlib.Core.Path.{◌≡◌, sym, ap, ap₂, ◌∙◌, subst}
 use mathlib.Core.List.{List, ◌++◌}
 use Prim.Native.Nat.{ℕ, ◌+◌, ◌≤◌}
-use native.Mathlib.Nat.{le_of_eq}
-use lib.ListN.{length, take, replicate}
-use lib.Seq.{length-take-le}
+use lib.ListN.{length}
 use Rattle.algebra.specs.Parts.{joined}
-use Rattle.algebra.specs.Tabulate.{tabulate}
-use Rattle.slices.specs.Lengths.{longest}
 use Rattle.params.specs.declared.Parameters.{Parameters}
-use Rattle.params.proofs.Accepted.{n_short}
-use Rattle.params.specs.Code.{Accepted}
-use Rattle.signature.specs.Inverses.{Inverted, added}
-use Rattle.signature.proofs.Stored.{support_is}
 use Rattle.parity.specs.Word.{whole}
 use Rattle.parity.specs.Columns.{roles_of, message_length}
 use Rattle.fields.specs.Fields.{line_length}
@@ -20,17 +12,6 @@ use Rattle.fields.specs.Written.{written, written_more, written_over}
 use Rattle.fields.specs.Over.{over}
 use Rattle.lines.specs.Listing.{code_line, column_line, lines_text, support_of, listing_text, listing_length}
 use Rattle.lines.specs.Lengths.{length_code, length_lines}
-
--- n entries of a local array
-pub n_taken : {c : Parameters} {h : List ℕ} → Accepted c h → c.n ≡ length {A = ℕ} (take c.n (replicate longest 0))
-n_taken {c} A = sym (length-take-le c.n (replicate longest 0) (n_short A.limits))
-
--- the sums that are stored are the support
-pub support_held : {c : Parameters} {h inverses : List ℕ} {k : ℕ} → Accepted c h → Inverted c.m h inverses → k ≡ c.n
-    → tabulate k (added inverses (added inverses c.omega 0)) ≡ support_of c h
-support_held {c} {h} {inverses} A I e =
-    ap (λ (k : ℕ). tabulate k (added inverses (added inverses c.omega 0))) e
-    ∙ support_is I c.n (le_of_eq (sym A.limits.h_length)) c.omega
 
 -- what is computed is the listing's
 pub listing_written : (c : Parameters) (h old : List ℕ) {k : ℕ} {support roles new : List ℕ} → k ≡ message_length c h → support ≡ support_of c h

@@ -3,7 +3,7 @@ use mathlib.Core.Path.{◌≡◌, refl, sym, ap, ap₂, ◌∙◌}
 use Prim.Native.Nat.{ℕ, zero, suc}
 use Rattle.algebra.specs.Field.{Ops, Laws}
 use Rattle.algebra.specs.FieldLaws.{ring}
-use Rattle.locator.specs.Coefficients.{horner}
+use Rattle.locator.specs.Halves.{horner}
 
 -- the coefficients one place up, with a new lowest one
 unfoldable pub shifted : {A : Type 0} → A → (ℕ → A) → ℕ → A

@@ -23,7 +23,7 @@ use Rattle.field.specs.Product.{product}
 use Rattle.field.specs.Words.{word}
 use Rattle.slices.specs.Lengths.{longest}
 use Rattle.algebra.specs.Lists.{entry_of}
-use Rattle.locator.specs.Coefficients.{half, horner, evaluate, Half, Combined, Lifted, Constant}
+use Rattle.locator.specs.Halves.{half, horner, evaluate, Half, Combined, Lifted, Constant}
 use Rattle.locator.proofs.Horner.{shifted, horner_cong, horner-nought, horner_constant, horner_combine, horner_raise}
 
 -- the field's product, as the code computes it

@@ -2,7 +2,7 @@
 use mathlib.Core.Path.{◌≡◌, sym, ap, ◌∙◌, subst, subst₂}
 use mathlib.Core.Bool.{Bool, true, false, not, false≢true}
 use mathlib.Core.List.{List}
-use Prim.Native.Nat.{ℕ, zero, suc, ◌+◌, ◌-◌, ◌*◌, ◌/◌, ◌<◌, ◌≤◌, ◌^◌}
+use Prim.Native.Nat.{ℕ, zero, suc, ◌+◌, ◌/◌, ◌<◌, ◌≤◌, ◌^◌}
 use native.Mathlib.Nat.{le_trans}
 use native.Mathlib.Decide.{ℕ_discrete}
 use native.Mathlib.Omega.{arith}
@@ -13,25 +13,17 @@ use borrow.Author.Tests.{eq-eqb, ne_eqb}
 use Rattle.algebra.specs.FieldLaws.{mul-nought, nought-mul}
 use Rattle.algebra.specs.Locator.Split.{Halves, discrepancy}
 use Rattle.algebra.specs.Locator.Nodal.{Points}
-use Rattle.algebra.specs.Locator.Pass.{Pivot, Pivot.smaller, Pivot.remaining, Raised, Reduced, Step, Step.first_pivot, Step.second_pivot, pass_start, pass_step, pass_swap}
+use Rattle.algebra.specs.Locator.Pass.{Invariant, Pivot, Pivot.smaller, Pivot.remaining, Raised, Reduced, Step, Step.first_pivot, Step.second_pivot, pass_start, pass_step, pass_swap}
 use Rattle.field.specs.Gf.{Width, gf}
 use Rattle.field.proofs.GfLaws.{gf_laws}
 use Rattle.algebra.specs.Lists.{entry_of}
-use Rattle.locator.specs.declared.Polynomial.{Polynomial}
-use Rattle.locator.specs.Coefficients.{halves_of, Half, Pair, Combined, Lifted, Turned, Choice, Choice.first, Choice.second, Advanced, Constant, Started, Passed, Located}
+use Rattle.locator.specs.declared.polynomial.Polynomial.{Polynomial}
+use Rattle.locator.specs.Halves.{Half, Pair, Constant}
+use Rattle.locator.specs.Coefficients.{halves_of, Turned, Choice, Choice.first, Choice.second, Advanced, Started, Passed, Located}
 use Rattle.locator.proofs.Loops.{constant_value}
 
 pub half_weaken : {m n k : ℕ} {l : List ℕ} → n ≤ k → Half m n l → Half m k l
 half_weaken h H = record { long = H.long; inside = H.inside; ends = λ j g. H.ends j (le_trans h g) }
-
-pub pair_weaken : {m d e : ℕ} {P : Polynomial} → d ≤ e → Pair m d P → Pair m e P
-pair_weaken {d} {e} h H = record { even_half = half_weaken even_grows H.even_half; odd_half = half_weaken odd_grows H.odd_half }
-  where
-    even_grows : d / 2 + 1 ≤ e / 2 + 1
-    even_grows = omega arith
-
-    odd_grows : (d + 1) / 2 ≤ (e + 1) / 2
-    odd_grows = omega arith
 
 -- ---- `turn`: past the coefficients of the other pair nothing of the pivot is added
 
@@ -48,23 +40,6 @@ module _ {m a b p q : ℕ} (W : Width m) (choice : Pivot (gf m) a b p q) {l : Li
 
   pub spare_odd : Half m ((p + 1) / 2) l → (k : ℕ) → (q + 1) / 2 ≤ k → (gf m).mul b (entry_of l k) ≡ 0
   spare_odd H k h = spare H (λ g. omega arith)
-
-pub turned : {m r a b p q : ℕ} {P Q P' Q' : Polynomial} → Combined m (q / 2 + 1) a b P.even Q.even Q'.even
-    → Combined m ((q + 1) / 2) a b P.odd Q.odd Q'.odd → Lifted m (p / 2 + 1) r P.even P'.even → Lifted m ((p + 1) / 2) r P.odd P'.odd
-    → Turned m r a b p q P Q P' Q'
-turned {p} ce co le lo =
-    record {
-      pivot = record { even_half = half_weaken even_grows le.shape; odd_half = half_weaken odd_grows lo.shape };
-      other = record { even_half = ce.shape; odd_half = co.shape };
-      raised = record { even_raised = le.multiple; odd_raised = lo.multiple };
-      reduced = record { even_reduced = ce.sum; odd_reduced = co.sum };
-    }
-  where
-    even_grows : p / 2 + 1 + 1 ≤ (p + 2) / 2 + 1
-    even_grows = omega arith
-
-    odd_grows : (p + 1) / 2 + 1 ≤ (p + 2 + 1) / 2
-    odd_grows = omega arith
 
 -- ---- `leads`
 
@@ -96,37 +71,40 @@ chosen_second (second h) e = h
 abbrev halves : ℕ → Polynomial → Halves ℕ
 halves m = halves_of (gf m)
 
-module _ {m z s p q r a b : ℕ} {P Q P' Q' : Polynomial} (er : r ≡ (gf m).mul z z) (ea : a ≡ discrepancy (gf m) z s (halves m P))
-    (eb : b ≡ discrepancy (gf m) z s (halves m Q)) where
-  pub advanced_first : Pivot (gf m) a b p q → Turned m r a b p q P Q P' Q' → Advanced m z s p q P Q (p + 2) P' Q'
+-- the discrepancy that Q computes over its own field, whose width n is that of P's
+moved : {m n b : ℕ} (z s : ℕ) (Q : Polynomial) → n ≡ m → b ≡ discrepancy (gf n) z s (halves n Q) → b ≡ discrepancy (gf m) z s (halves m Q)
+moved {b = b} z s Q same e = subst (λ (k : ℕ). b ≡ discrepancy (gf k) z s (halves k Q)) same e
+
+module _ {m n z s r a b : ℕ} {P Q P' Q' : Polynomial} (same : n ≡ m) (er : r ≡ (gf m).mul z z) (ea : a ≡ discrepancy (gf m) z s (halves m P))
+    (eb_n : b ≡ discrepancy (gf n) z s (halves n Q)) where
+  pub advanced_first : Pivot (gf m) a b P.degree Q.degree → Turned m r a b P Q P' Q' → Advanced m z s P Q P' Q'
   advanced_first choice T =
+      let eb : b ≡ discrepancy (gf m) z s (halves m Q) = moved z s Q same eb_n in
       record {
-        first = T.pivot;
-        second = subst (λ (d : ℕ). Pair m d Q') kept T.other;
-        low = omega arith;
+        first = T.pivot.width;
+        second = T.other.width;
         step =
-            subst (λ (d : ℕ). Step (gf m) z s (halves m P) p (halves m Q) q (halves m P') (p + 2) (halves m Q') d) kept
-            (first_pivot (subst₂ (λ (x y : ℕ). Pivot (gf m) x y p q) ea eb choice) (subst (λ (x : ℕ). Raised (gf m) x (halves m P) (halves m P')) er T.raised)
+            subst₂ (λ (d e : ℕ). Step (gf m) z s (halves m P) P.degree (halves m Q) Q.degree (halves m P') d (halves m Q') e)
+            (sym T.pivot.degree) (sym T.other.degree)
+            (first_pivot (subst₂ (λ (x y : ℕ). Pivot (gf m) x y P.degree Q.degree) ea eb choice)
+            (subst (λ (x : ℕ). Raised (gf m) x (halves m P) (halves m P')) er T.raised)
             (subst₂ (λ (x y : ℕ). Reduced (gf m) x y (halves m P) (halves m Q) (halves m Q')) ea eb T.reduced));
       }
-    where
-      kept : q ≡ p + q + 2 - (p + 2)
-      kept = omega arith
 
-  pub advanced_second : Pivot (gf m) b a q p → Turned m r b a q p Q P Q' P' → Advanced m z s p q P Q p P' Q'
-  advanced_second choice T =
+  pub advanced_second : Pivot (gf m) b a Q.degree P.degree → Turned n r b a Q P Q' P' → Advanced m z s P Q P' Q'
+  advanced_second choice turned =
+      let T : Turned m r b a Q P Q' P' = subst (λ (k : ℕ). Turned k r b a Q P Q' P') same turned in
+      let eb : b ≡ discrepancy (gf m) z s (halves m Q) = moved z s Q same eb_n in
       record {
-        first = T.other;
-        second = subst (λ (d : ℕ). Pair m d Q') grown T.pivot;
-        low = omega arith;
+        first = T.other.width;
+        second = T.pivot.width;
         step =
-            subst (λ (d : ℕ). Step (gf m) z s (halves m P) p (halves m Q) q (halves m P') p (halves m Q') d) grown
-            (second_pivot (subst₂ (λ (x y : ℕ). Pivot (gf m) x y q p) eb ea choice) (subst (λ (x : ℕ). Raised (gf m) x (halves m Q) (halves m Q')) er T.raised)
+            subst₂ (λ (d e : ℕ). Step (gf m) z s (halves m P) P.degree (halves m Q) Q.degree (halves m P') d (halves m Q') e)
+            (sym T.other.degree) (sym T.pivot.degree)
+            (second_pivot (subst₂ (λ (x y : ℕ). Pivot (gf m) x y Q.degree P.degree) eb ea choice)
+            (subst (λ (x : ℕ). Raised (gf m) x (halves m Q) (halves m Q')) er T.raised)
             (subst₂ (λ (x y : ℕ). Reduced (gf m) x y (halves m Q) (halves m P) (halves m P')) eb ea T.reduced));
       }
-    where
-      grown : q + 2 ≡ p + q + 2 - p
-      grown = omega arith
 
 -- ---- `pass`
 
@@ -144,73 +122,49 @@ nought_half {m} {n} {l} C = record { long = C.long; inside = (constant_half (pow
     all zero = C.lowest
     all (suc k) = C.ends (suc k) (omega arith)
 
-pub passed_none : {m : ℕ} (W : Width m) (roots syndrome : List ℕ) {P Q : Polynomial} → Started P Q → Passed m roots syndrome 0 0 P Q
-passed_none {m} W roots syndrome S =
+-- the halves of 1, of degree 0, and of x, of degree 1
+pub one_pair : {m : ℕ} → Width m → {even odd : List ℕ} → Constant 1 even → Constant 0 odd → Pair m 0 even odd
+one_pair {m} W even odd = record { even_half = constant_half (gf_laws m W).in_one even; odd_half = nought_half odd }
+
+pub x_pair : {m : ℕ} → Width m → {even odd : List ℕ} → Constant 0 even → Constant 1 odd → Pair m 1 even odd
+x_pair {m} W even odd = record { even_half = nought_half even; odd_half = constant_half (gf_laws m W).in_one odd }
+
+pub passed_none : {m : ℕ} (W : Width m) (roots syndrome : List ℕ) {P Q : Polynomial} → Started m P Q → Passed m roots syndrome 0 P Q
+passed_none {m} W roots syndrome {P} {Q} S =
     record {
-      low = omega arith;
-      first = record { even_half = constant_half (gf_laws m W).in_one S.first_even; odd_half = nought_half S.first_odd };
-      second = record { even_half = nought_half S.second_even; odd_half = constant_half (gf_laws m W).in_one S.second_odd };
+      first = S.first.width;
+      second = S.second.width;
       invariant =
-          pass_start (gf m) (gf_laws m W)
+          subst₂ (λ (p q : ℕ). Invariant (gf m) (entry_of roots) (entry_of syndrome) 0 (halves m P) p (halves m Q) q)
+          (sym S.first.degree) (sym S.second.degree)
+          (pass_start (gf m) (gf_laws m W)
           (record {
             first_even = constant_value m W S.first_even;
             first_odd = constant_value m W S.first_odd;
             second_even = constant_value m W S.second_even;
             second_odd = constant_value m W S.second_odd;
-          });
+          }));
     }
 
-pub passed_more : {m : ℕ} (W : Width m) {roots syndrome : List ℕ} → Points (gf m) (length roots) (entry_of roots) → {i p p' : ℕ}
-    {P Q P' Q' : Polynomial} → Passed m roots syndrome i p P Q → i < length roots
-    → Advanced m (entry_of roots i) (entry_of syndrome i) p (2 * i + 1 - p) P Q p' P' Q'
-    → Passed m roots syndrome (i + 1) p' P' Q'
-passed_more {m} W {roots} {syndrome} R {i} {p} {p'} {P} {Q} {P'} {Q'} G l A =
-    record {
-      low = omega (arith, G.low, A.low);
-      first = A.first;
-      second = subst (λ (d : ℕ). Pair m d Q') left A.second;
-      invariant =
-          pass_step (gf m) (gf_laws m W) R l G.invariant
-          (subst
-          (λ (d : ℕ).
-          Step (gf m) (entry_of roots i) (entry_of syndrome i) (halves_of (gf m) P) p (halves_of (gf m) Q) (2 * i + 1 - p)
-          (halves_of (gf m) P') p'
-          (halves_of (gf m) Q') d)
-          left A.step);
-    }
-  where
-    left : p + (2 * i + 1 - p) + 2 - p' ≡ 2 * (i + 1) + 1 - p'
-    left = omega (arith, G.low)
-
-pub passed_all : {m : ℕ} (roots : List ℕ) {syndrome : List ℕ} {i p : ℕ} {P Q : Polynomial} → i ≡ length roots
-    → Passed m roots syndrome i p P Q
-    → Passed m roots syndrome (length roots) p P Q
-passed_all {m} roots {syndrome} {i} {p} {P} {Q} h G = subst (λ (k : ℕ). Passed m roots syndrome k p P Q) h G
+pub passed_more : {m : ℕ} (W : Width m) {roots syndrome : List ℕ} → Points (gf m) (length roots) (entry_of roots) → {i z s : ℕ}
+    {P Q P' Q' : Polynomial} → Passed m roots syndrome i P Q → i < length roots → z ≡ entry_of roots i → s ≡ entry_of syndrome i
+    → Advanced P.m z s P Q P' Q' → Passed m roots syndrome (i + 1) P' Q'
+passed_more {m} W {roots} {syndrome} R {i} {z} {s} {P} {Q} {P'} {Q'} G l root value advanced =
+    let A : Advanced m z s P Q P' Q' = subst (λ (k : ℕ). Advanced k z s P Q P' Q') G.first advanced in
+    let B : Advanced m (entry_of roots i) (entry_of syndrome i) P Q P' Q' = subst₂ (λ (x y : ℕ). Advanced m x y P Q P' Q') root value A in
+    record { first = B.first; second = B.second; invariant = pass_step (gf m) (gf_laws m W) R l G.invariant B.step }
 
 -- ---- `locate`
 
-module _ {m : ℕ} (W : Width m) {roots syndrome : List ℕ} {p : ℕ} {P Q : Polynomial} (G : Passed m roots syndrome (length roots) p P Q) where
-  pub located_first : p ≤ length roots → Located m roots syndrome P
-  located_first h =
-      record {
-        pair = pair_weaken h G.first;
-        degree = p;
-        rest = halves_of (gf m) Q;
-        rest_degree = 2 * length roots + 1 - p;
-        least = omega arith;
-        invariant = G.invariant;
-      }
-
-  pub located_second : length roots < p → Located m roots syndrome Q
-  located_second h =
-      record {
-        pair = pair_weaken small G.second;
-        degree = 2 * length roots + 1 - p;
-        rest = halves_of (gf m) P;
-        rest_degree = p;
-        least = omega arith;
-        invariant = pass_swap (gf m) (gf_laws m W) G.invariant;
-      }
-    where
-      small : 2 * length roots + 1 - p ≤ length roots
-      small = omega arith
+pub located_second : {m : ℕ} → Width m → (roots : List ℕ) {syndrome : List ℕ} {i : ℕ} {P Q : Polynomial} → i ≡ length roots
+    → Passed m roots syndrome i P Q → Q.degree < P.degree → Located m roots syndrome Q
+located_second {m} W roots {syndrome} {P = P} {Q} ended G h =
+    record {
+      width = G.second;
+      rest = halves m P;
+      rest_degree = P.degree;
+      least = omega arith;
+      invariant =
+          subst (λ (k : ℕ). Invariant (gf m) (entry_of roots) (entry_of syndrome) k (halves m Q) Q.degree (halves m P) P.degree) ended
+          (pass_swap (gf m) (gf_laws m W) G.invariant);
+    }

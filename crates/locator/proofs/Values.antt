@@ -5,8 +5,9 @@ use Rattle.algebra.specs.Locator.Split.{value, discrepancy, in_discrepancy}
 use Rattle.algebra.specs.Xor.{◌⊕◌}
 use Rattle.field.specs.Gf.{Width, gf}
 use Rattle.field.proofs.GfLaws.{gf_laws}
-use Rattle.locator.specs.declared.Polynomial.{Polynomial}
-use Rattle.locator.specs.Coefficients.{evaluate, halves_of}
+use Rattle.locator.specs.declared.polynomial.Polynomial.{Polynomial}
+use Rattle.locator.specs.Halves.{evaluate}
+use Rattle.locator.specs.Coefficients.{halves_of}
 
 module _ (m : ℕ) (p : Polynomial) where
   -- 1 + s·z

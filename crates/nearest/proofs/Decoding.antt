@@ -18,17 +18,15 @@ use Rattle.algebra.specs.TabulateLaws.{tabulate_cong, length-tabulate, get_d_tab
 use Rattle.algebra.specs.Filling.{Filling, filling_start, filling_turn}
 use Rattle.algebra.specs.Xor.{◌⊕◌}
 use Rattle.field.specs.Gf.{gf}
-use Rattle.slices.specs.Bits.{IsBits}
 use Rattle.slices.specs.Elements.{Elements}
 use Rattle.slices.specs.Lengths.{longest}
 use Rattle.params.specs.declared.Parameters.{Parameters}
 use Rattle.params.proofs.Accepted.{accepted_pair, n_short, t_short}
 use Rattle.signature.specs.Signature.{root_at, support_at}
-use Rattle.signature.specs.Inverses.{Inverted, added}
-use Rattle.signature.proofs.Stored.{roots_are, support_is}
-use Rattle.parity.specs.Parity.{Summed, signature_sum, signature_syndrome, signature_in}
+use Rattle.parity.specs.Parity.{signature_syndrome, signature_in}
+use Rattle.parity.specs.Word.{syndrome_at, syndrome_of}
 use Rattle.parity.specs.Selected.{OnColumns}
-use Rattle.locator.specs.declared.Polynomial.{Polynomial}
+use Rattle.locator.specs.declared.polynomial.Polynomial.{Polynomial}
 use Rattle.locator.specs.Coefficients.{halves_of, Syndrome, Located}
 use Rattle.nearest.specs.Decoding.{is_error, root_place, Candidate}
 use Rattle.nearest.proofs.Errors.{roots}
@@ -71,16 +69,6 @@ module _ {c : Parameters} {h cols : List ℕ} (O : OnColumns c h cols) where
   pub roots_short : c.t ≤ longest
   roots_short = omega (arith, t_short O.accepted.limits, n_short O.accepted.limits)
 
-  -- what the sums of a word's columns ask for
-  pub summed : {word : List ℕ} → IsBits (length cols) word → Summed c.m h cols word
-  summed {word} b =
-      record {
-        width = O.accepted.limits.width;
-        long = b.long;
-        bits = λ j l. b.bits j (subst (λ (k : ℕ). j < k) b.long l);
-        elements = O.accepted.limits.h_in;
-      }
-
   abbrev z : ℕ → ℕ
   z = root_at (gf c.m) c.omega (entry_of h)
 
@@ -107,30 +95,23 @@ module _ {c : Parameters} {h cols : List ℕ} (O : OnColumns c h cols) where
   pub column_in : {ls : List ℕ} → ls ≡ tabulate c.n L → (j : ℕ) → j < length cols → entry_of cols j < length ls
   column_in e j l = subst (λ (k : ℕ). entry_of cols j < k) (sym (ap length e ∙ length-tabulate c.n L)) (O.selected.inside j l)
 
-  -- what the decoder stores: the roots and the support, from the inverses, and the syndrome
-  module _ {inverses : List ℕ} (I : Inverted c.m h inverses) where
-    pub roots_stored : {k : ℕ} {new : List ℕ} → k ≡ c.t → new ≡ tabulate k (added inverses c.omega) → new ≡ tabulate c.t z
-    roots_stored long e =
-        e ∙ ap (λ (k : ℕ). tabulate k (added inverses c.omega)) long
-        ∙ roots_are I c.t (omega (arith, t_short O.accepted.limits, O.accepted.limits.h_length)) c.omega
+  -- what the decoder stores: the roots and the support
+  pub roots_stored : {k : ℕ} {new : List ℕ} → k ≡ c.t → new ≡ tabulate k z → new ≡ tabulate c.t z
+  roots_stored long e = e ∙ ap (λ (k : ℕ). tabulate k z) long
 
-    pub support_stored : {k : ℕ} {new : List ℕ} → k ≡ c.n → new ≡ tabulate k (added inverses (added inverses c.omega 0))
-        → new ≡ tabulate c.n L
-    support_stored long e =
-        e ∙ ap (λ (k : ℕ). tabulate k (added inverses (added inverses c.omega 0))) long
-        ∙ support_is I c.n (omega (arith, O.accepted.limits.h_length)) c.omega
+  pub support_stored : {k : ℕ} {new : List ℕ} → k ≡ c.n → new ≡ tabulate k L → new ≡ tabulate c.n L
+  support_stored long e = e ∙ ap (λ (k : ℕ). tabulate k L) long
 
   module _ (received : List ℕ) where
     abbrev s : ℕ → ℕ
-    s = signature_sum c.m h cols received
+    s = syndrome_at c h cols received
 
-    pub syndrome_stored : {k : ℕ} {new : List ℕ} → k ≡ c.t → new ≡ tabulate k s → new ≡ tabulate c.t s
-    syndrome_stored long e = e ∙ ap (λ (k : ℕ). tabulate k s) long
-
-    syndrome_at_lem : {ss : List ℕ} → ss ≡ tabulate c.t s → (i : ℕ) → i < c.t → entry_of ss i ≡ s i
+    syndrome_at_lem : {ss : List ℕ} → ss ≡ syndrome_of c h cols received → (i : ℕ) → i < c.t → entry_of ss i ≡ s i
+    unfolding syndrome_of
     syndrome_at_lem e i l = ap (λ (x : List ℕ). entry_of x i) e ∙ get_d_tabulate c.t s i 0 l
 
-    pub syndrome_fits : {rs ss : List ℕ} → rs ≡ tabulate c.t z → ss ≡ tabulate c.t s → Syndrome c.m rs ss
+    pub syndrome_fits : {rs ss : List ℕ} → rs ≡ tabulate c.t z → ss ≡ syndrome_of c h cols received → Syndrome c.m rs ss
+    unfolding syndrome_of
     syndrome_fits {rs} {ss} er es =
         let many : length rs ≡ c.t = ap length er ∙ length-tabulate c.t z in
         record {
@@ -138,7 +119,8 @@ module _ {c : Parameters} {h cols : List ℕ} (O : OnColumns c h cols) where
           long = ap length es ∙ length-tabulate c.t s ∙ sym many;
           inside = λ i l.
               let li : i < c.t = subst (λ (k : ℕ). i < k) many l in
-              subst (gf c.m).In (sym (syndrome_at_lem es i li)) (signature_in O.accepted O.selected received i li);
+              subst (gf c.m).In (signature_syndrome O.accepted O.selected received i li ∙ sym (syndrome_at_lem es i li))
+              (signature_in O.accepted O.selected received i li);
         }
       where
         halved : c.t ≤ c.n / 2 → c.n ≤ longest → c.t ≤ longest / 2
@@ -146,13 +128,13 @@ module _ {c : Parameters} {h cols : List ℕ} (O : OnColumns c h cols) where
 
     -- what `turn_roots` makes of the pair that the pass leaves is the candidate
     module _ {rs ls ss word : List ℕ} {p : Polynomial} {number : ℕ} (er : rs ≡ tabulate c.t z) (el : ls ≡ tabulate c.n L)
-        (es : ss ≡ tabulate c.t s) (P : Located c.m rs ss p)
-        (number_is : number ≡ count (length cols) (root_place c.m p ls cols))
-        (word_is : word ≡ turned (length cols) (root_place c.m p ls cols) received) where
-      root_error : (j : ℕ) → j < length cols → root_place c.m p ls cols j ≡ is_error c h cols (halves_of (gf c.m) p) j
+        (es : ss ≡ syndrome_of c h cols received) (P : Located c.m rs ss p)
+        (number_is : number ≡ count (length cols) (root_place p ls cols))
+        (word_is : word ≡ turned (length cols) (root_place p ls cols) received) where
+      root_error : (j : ℕ) → j < length cols → root_place p ls cols j ≡ is_error c h cols (halves_of (gf c.m) p) j
       unfolding root_place is_error
       root_error j l =
-          ap (λ (x : ℕ). eqb (value (gf c.m) (halves_of (gf c.m) p) x) 0)
+          ap₂ (λ (m x : ℕ). eqb (value (gf m) (halves_of (gf m) p) x) 0) P.width
           (support_at_lem el (entry_of cols j) (O.selected.inside j l))
 
       pub candidate_found : Candidate c h cols received number word
@@ -162,16 +144,16 @@ module _ {c : Parameters} {h cols : List ℕ} (O : OnColumns c h cols) where
           let pair = halves_of (gf c.m) p in
           record {
             pair = pair;
-            degree = P.degree;
+            degree = p.degree;
             rest = P.rest;
             rest_degree = P.rest_degree;
             invariant =
                 invariant_cong (λ k l. sym (root_at_lem er k l))
-                (λ k l. sym (syndrome_at_lem es k l ∙ signature_syndrome O.accepted O.selected received k l))
-                (subst (λ (i : ℕ). Invariant (gf c.m) (entry_of rs) (entry_of ss) i pair P.degree P.rest P.rest_degree) many
+                (λ k l. sym (syndrome_at_lem es k l))
+                (subst (λ (i : ℕ). Invariant (gf c.m) (entry_of rs) (entry_of ss) i pair p.degree P.rest P.rest_degree) many
                 P.invariant);
             least = P.least;
-            number_is = number_is ∙ count_tests (length cols) (root_place c.m p ls cols) _ root_error;
+            number_is = number_is ∙ count_tests (length cols) (root_place p ls cols) _ root_error;
             word_is =
                 word_is
                 ∙ tabulate_cong (length cols) (λ j l. ap (λ (b : Bool). entry_of received j ⊕ cond b 1 0) (root_error j l));

@@ -8,13 +8,13 @@ use Rattle.field.specs.Gf.{gf}
 use Rattle.params.specs.declared.Parameters.{Parameters}
 use Rattle.signature.specs.Signature.{root_at, support_at}
 use Rattle.parity.specs.Word.{syndrome_at}
-use Rattle.locator.specs.declared.Polynomial.{Polynomial}
+use Rattle.locator.specs.declared.polynomial.Polynomial.{Polynomial}
 use Rattle.locator.specs.Coefficients.{halves_of}
 use Rattle.nearest.specs.Turned.{turned}
 
 -- the support of place j, by its column, is a root of the polynomial
-unfoldable pub root_place : ℕ → Polynomial → List ℕ → List ℕ → ℕ → Bool
-root_place m p support cols j = eqb (value (gf m) (halves_of (gf m) p) (entry_of support (entry_of cols j))) 0
+unfoldable pub root_place : Polynomial → List ℕ → List ℕ → ℕ → Bool
+root_place p support cols j = eqb (value (gf p.m) (halves_of (gf p.m) p) (entry_of support (entry_of cols j))) 0
 
 -- the support of place j is a root of the pair
 unfoldable pub is_error : Parameters → List ℕ → List ℕ → Halves ℕ → ℕ → Bool

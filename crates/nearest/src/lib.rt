@@ -4,69 +4,53 @@
 // All of it is for an accepted code, whose inverses 1/h are known, and for any list of its columns: place j of a word is column cols_j.
 #![tactic(auto)]
 
-ghost use Rattle.std.specs.Prelude.{◌≡◌, ℕ, ◌<◌, ◌≤◌, length};
+ghost use Rattle.std.specs.Prelude.{◌≡◌, ℕ, ◌<◌, length};
 ghost use Rattle.algebra.specs.Lists.{entry_of};
 ghost use Rattle.algebra.specs.Places.{count};
-ghost use Rattle.field.specs.Gf.{Width};
 ghost use Rattle.slices.specs.Bits.{IsBits};
 ghost use Rattle.slices.specs.Elements.{Elements};
-ghost use Rattle.slices.specs.Lengths.{longest};
-ghost use Rattle.signature.specs.Inverses.{Inverted};
 ghost use Rattle.parity.specs.OfCode.{of_code, OfCode};
 ghost use Rattle.parity.specs.Word.{is_code_word};
-ghost use Rattle.locator.specs.Coefficients.{Pair};
 ghost use Rattle.nearest.specs.Decoding.{root_place, Candidate};
 ghost use Rattle.nearest.specs.Turned.{turned};
 
 use basis::Column;
 use field::Elem;
 use locator::Polynomial;
-use parity::{Code, syndromes};
-use signature::{store_roots, store_support};
+use parity::{Code, points, syndromes};
 use slices::LONGEST;
-
-// A code on a list of its columns, whose inverses 1/h are known, so that words received can be repaired.
-#[derive(Clone, Copy)]
-pub struct Decoder<'a, 'b> {
-    pub code: Code<'a>,
-    pub inverses: &'b [Elem],
-    ghost inverted: { Inverted code.c.m code.h.now inverses.now },
-}
 
 // Whether the sums of the word's columns are nought in each of the t rows.
 pub fn is_code_word(code: &Code<'_>, word: &[u8]) -> bool
     requires { IsBits (length code.now.cols.now) word.now }
     ensures { result ≡ of_code is_code_word code.now word.now }
 {
-    (0..code.c.t as usize).all(|i| syndromes::syndrome_at(code.c.m, code.h, code.cols, word, i)
-        == 0)
+    (0..code.c.t as usize).all(|i| syndromes::syndrome_at(code, word, i) == 0)
 }
 
-// The word received with the bits turned at the places whose support is a root of the polynomial, of degree d at most, and the number of these
-// places.
+// The word received with the bits turned at the places whose support is a root of the polynomial, and the number of these places.
 fn turn_roots(
-    m: u32,
-    d: usize,
     polynomial: &Polynomial,
     support: &[Elem],
     cols: &[Column],
     received: &[u8],
     word: &mut [u8],
 ) -> usize
-    requires width { Width m × Pair m d polynomial.now × (d ≤ longest) × Elements m support.now }
+    requires in_field { Elements polynomial.now.m support.now }
     requires by_index { (j : ℕ) → j < length cols.now → entry_of cols.now j < length support.now }
     requires received_len { (length received.now ≡ length cols.now) × (length word.old ≡ length cols.now) }
     ensures value { result
         ≡ count (length cols.now)
-        (root_place m polynomial.now support.now cols.now) }
+        (root_place polynomial.now support.now cols.now) }
     ensures word_after { word.new
         ≡ turned (length cols.now)
-        (root_place m polynomial.now support.now cols.now) received.now }
+        (root_place polynomial.now support.now cols.now) received.now }
 {
     let mut turned = 0;
+    // By index: j is a place of the word received and of the word that is written.
     for (j, column) in cols.iter().enumerate() {
         let mut bit = received[j];
-        if locator::is_root(m, d, polynomial, support[*column as usize]) {
+        if polynomial.is_root(support[*column as usize]) {
             bit ^= 1;
             turned += 1;
         }
@@ -78,48 +62,37 @@ fn turn_roots(
 // The one word that can be the repair of the word received, and the number of places in which they differ. The other slices that it writes have room
 // for the roots, the support and the syndrome.
 fn find_candidate(
-    decoder: &Decoder<'_, '_>,
+    code: &Code<'_>,
     received: &[u8],
     roots: &mut [Elem],
     support: &mut [Elem],
     syndrome: &mut [Elem],
     word: &mut [u8],
 ) -> usize
-    requires received { IsBits (length decoder.now.code.cols.now) received.now × (length word.old ≡ length decoder.now.code.cols.now) }
-    requires roots_len { (length roots.old ≡ decoder.now.code.c.t) × (length support.old ≡ decoder.now.code.c.n)
-        × (length syndrome.old ≡ decoder.now.code.c.t) }
-    ensures { OfCode Candidate decoder.now.code received.now result word.new }
+    requires received { IsBits (length code.now.cols.now) received.now × (length word.old ≡ length code.now.cols.now) }
+    requires roots_len { (length roots.old ≡ code.now.c.t) × (length support.old ≡ code.now.c.n)
+        × (length syndrome.old ≡ code.now.c.t) }
+    ensures { OfCode Candidate code.now received.now result word.new }
 {
-    let code = decoder.code;
-    let m = code.c.m;
-    let omega = code.c.omega as Elem;
-    store_roots(decoder.inverses, omega, roots);
-    store_support(decoder.inverses, omega, support);
-    syndromes::syndrome(m, code.h, code.cols, received, syndrome);
-    let polynomial = locator::locate(m, roots, syndrome);
-    turn_roots(
-        m,
-        roots.len(),
-        &polynomial,
-        support,
-        code.cols,
-        received,
-        word,
-    )
+    points::roots(code, roots);
+    points::support(code, support);
+    syndromes::syndrome(code, received, syndrome);
+    let polynomial = locator::locate(code.c.m, roots, syndrome);
+    turn_roots(&polynomial, support, code.cols, received, word)
 }
 
 // The same, with room of its own.
-pub fn candidate(decoder: &Decoder<'_, '_>, received: &[u8], word: &mut [u8]) -> usize
-    requires { IsBits (length decoder.now.code.cols.now) received.now × (length word.old ≡ length decoder.now.code.cols.now) }
-    ensures { OfCode Candidate decoder.now.code received.now result word.new }
+pub fn candidate(code: &Code<'_>, received: &[u8], word: &mut [u8]) -> usize
+    requires { IsBits (length code.now.cols.now) received.now × (length word.old ≡ length code.now.cols.now) }
+    ensures { OfCode Candidate code.now received.now result word.new }
 {
     let mut roots: [Elem; LONGEST] = [0; LONGEST];
     let mut support: [Elem; LONGEST] = [0; LONGEST];
     let mut syndrome: [Elem; LONGEST] = [0; LONGEST];
-    let n = decoder.code.c.n as usize;
-    let t = decoder.code.c.t as usize;
+    let n = code.c.n as usize;
+    let t = code.c.t as usize;
     find_candidate(
-        decoder,
+        code,
         received,
         &mut roots[..t],
         &mut support[..n],

@@ -14,7 +14,8 @@ use field::internal::{is_element, is_width};
 use refusals::{Refusal, Rule};
 use signature::check_signature;
 
-// The numbers of a code. Its signature goes beside them, as a slice.
+// The numbers of a code. Its signature goes beside them, as a slice: the definitions and their laws take the two apart, and what a call is handed may
+// be no code. Once it is accepted, they go on together (`Code` of parity), while its marks are those of a call (`Setting` of shortened).
 #[derive(Clone, Copy, Debug, PartialEq, Eq)]
 pub struct Parameters {
     pub m: u32,
@@ -24,7 +25,7 @@ pub struct Parameters {
 }
 
 // Whether a code is accepted, where `buffers` says whether the call's lent buffers have their lengths. Where it is, `inverses` begins with the inverses
-// of the entries.
+// of the entries. It is a slice with room for the longest code, as docs/CONTRACTS.md names it to callers, and no array.
 pub fn check_code(
     c: Parameters,
     h: &[Elem],

@@ -1,31 +1,32 @@
 // The syndrome of a word from the code's signature: the parity check matrix has the entry h_(i ⊕ cols_j) in row i at place j.
 ghost use Rattle.std.specs.Prelude.{◌≡◌, ◌<◌, ◌^◌, length};
-ghost use Rattle.algebra.specs.Tabulate.{tabulate};
-ghost use Rattle.basis.specs.Table.{RowReaches, Reaches};
-ghost use Rattle.parity.specs.Parity.{signature_sum, Summed};
+ghost use Rattle.slices.specs.Bits.{IsBits};
+ghost use Rattle.parity.specs.OfCode.{of_code};
+ghost use Rattle.parity.specs.Word.{syndrome_at, syndrome_of};
 
-use basis::Column;
+use crate::Code;
 use field::Elem;
 
-// The sum of h_(i ⊕ cols_j) over the places j that hold 1.
-pub fn syndrome_at(m: u32, h: &[Elem], cols: &[Column], word: &[u8], i: usize) -> Elem
-    requires { Summed m h.now cols.now word.now × RowReaches i h.now cols.now }
-    ensures { (result ≡ signature_sum m h.now cols.now word.now i) × (result < 2 ^ m) }
+// Entry i: the sum of h_(i ⊕ cols_j) over the places j that hold 1.
+pub fn syndrome_at(code: &Code<'_>, word: &[u8], i: usize) -> Elem
+    requires { IsBits (length code.now.cols.now) word.now × (i < code.now.c.t) }
+    ensures { (result ≡ of_code syndrome_at code.now word.now i) × (result < 2 ^ code.now.c.m) }
 {
     let mut sum: Elem = 0;
-    for (j, column) in cols.iter().enumerate() {
+    // By `enumerate`: `zip` asks at two ends in each turn, and this loop is the decoder's hottest.
+    for (j, column) in code.cols.iter().enumerate() {
         let at = i ^ *column as usize;
-        sum ^= word[j] as Elem * h[at];
+        sum ^= word[j] as Elem * code.h[at];
     }
     sum
 }
 
-// Those sums for each row i, as many as `out` holds.
-pub fn syndrome(m: u32, h: &[Elem], cols: &[Column], word: &[u8], out: &mut [Elem])
-    requires { Summed m h.now cols.now word.now × Reaches (length out.old) h.now cols.now }
-    ensures { out.new ≡ tabulate (length out.old) (signature_sum m h.now cols.now word.now) }
+// The t entries.
+pub fn syndrome(code: &Code<'_>, word: &[u8], out: &mut [Elem])
+    requires { IsBits (length code.now.cols.now) word.now × (length out.old ≡ code.now.c.t) }
+    ensures { out.new ≡ of_code syndrome_of code.now word.now }
 {
     for (i, sum) in out.iter_mut().enumerate() {
-        *sum = syndrome_at(m, h, cols, word, i);
+        *sum = syndrome_at(code, word, i);
     }
 }

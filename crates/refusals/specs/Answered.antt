@@ -1,11 +1,11 @@
 -- What an answer says of the number that was due: a refusal tells it and leaves the buffers alone, and a value says that there was none.
 use Rattle.std.specs.Prelude.{◌≡◌, ◌≢◌, ◌⊎◌, List}
 use Rattle.std.proofs.Math.Path.{refl}
-use Rattle.std.proofs.Common.{sym, ◌∙◌, inl, inr}
+use Rattle.std.proofs.Common.{sym, inl, inr}
 use Prim.Native.Nat.{ℕ, zero, suc}
 use native.Mathlib.Omega.{arith}
 use Rattle.refusals.specs.Counted.{Count, Refused as NotCounted}
-use Rattle.refusals.specs.Outcome.{Outcome, Done, Refused, tested}
+use Rattle.refusals.specs.Outcome.{Done, Refused}
 use Rattle.refusals.specs.Rules.{Rule, Hold, fault, unless_refused}
 use Rattle.refusals.specs.RuleLaws.{fault_none, given}
 

@@ -9,7 +9,7 @@ use std::fmt;
 use std::marker::Model;
 
 // The rules that a call may break, each with its number in 01's table.
-#[derive(Clone, Copy, Debug, PartialEq, Eq)]
+#[derive(Clone, Copy, Debug, PartialEq, Eq, PartialOrd, Ord)]
 pub enum Rule {
     // m is no width of the table.
     Width = 1,
@@ -53,7 +53,8 @@ pub enum Rule {
     Hidden = 20,
 }
 
-// The error of every call that takes any input: the rule that it breaks. In a contract a refusal is the number of its rule.
+// What a call that takes any input is refused by: the rule that it breaks. Most calls hand it out as the error of a `Result`; repair and reading hold it
+// in enums of their own, which 01 names. In a contract a refusal is the number of its rule.
 #[derive(Clone, Copy, Debug, PartialEq, Eq)]
 pub struct Refusal(pub Rule);
 

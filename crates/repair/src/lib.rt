@@ -8,14 +8,11 @@ pub mod decoder;
 ghost use Rattle.std.specs.Prelude.{◌≡◌};
 ghost use Rattle.repair.specs.Answers.{repair_answer, repair_after};
 
-use basis::Column;
+use columns::Room;
 use field::Elem;
-use nearest::Decoder;
 use params::Parameters;
-use parity::Code;
 use refusals::Refusal;
 use shortened::{Lent, Setting, begin};
-use slices::LONGEST;
 
 // Either the repaired word, in the second buffer, with the number of places turned, or the rule that refuses it. An enum of
 // its own, and no Result, since 01 asks for the form by name.
@@ -41,21 +38,9 @@ pub fn repair(
         others: true,
         words: (received.len() == sent) & (repaired.len() == sent),
     };
-    let mut inverses: [Elem; LONGEST] = [0; LONGEST];
-    let mut columns: [Column; LONGEST] = [0; LONGEST];
-    match begin(c, h, s, lent, &mut inverses, &mut columns) {
+    let mut room = Room::new();
+    match begin(c, h, s, lent, &mut room) {
         Err(refusal) => Recovery::Refused(refusal),
-        Ok(n) => {
-            let code = Code {
-                c,
-                h,
-                cols: &columns[..n],
-            };
-            let decoder = Decoder {
-                code,
-                inverses: &inverses,
-            };
-            decoder::repair(&decoder, received, repaired)
-        }
+        Ok(code) => decoder::repair(&code, received, repaired),
     }
 }

@@ -5,42 +5,42 @@ ghost use Rattle.std.specs.Prelude.{◌≡◌, ◌≤◌, length};
 ghost use Rattle.basis.specs.Table.{free_count, Form, Carried};
 ghost use Rattle.messages.specs.CodeBasis.{MessageColumns};
 ghost use Rattle.parity.specs.OfCode.{OfCode};
-ghost use Rattle.gears.specs.Rows.{row_bits, row_message};
+ghost use Rattle.gears.specs.Rows.{row_bits, row_message, lamp_number};
 ghost use Rattle.rows.specs.Parts.{ReadInto};
 
 use crate::Reading;
 use basis::elimination::Basis;
-use gears::{is_row_message, place_row, row_in};
-use nearest::Decoder;
+use gears::{Row, is_row_message, place_row, row_in};
+use parity::Code;
 use refusals::{Refusal, Rule};
 use repair::Recovery;
 use repair::decoder::decode;
 use systematic::{carry, take_out};
 
 // The word with the row's message, which is made in `message`, at the free places, and the others as the rows of the basis say.
-pub fn write(gear: u32, lamp: u32, basis: &Basis, message: &mut [u8], word: &mut [u8])
+pub fn write(row: Row, basis: &Basis, message: &mut [u8], word: &mut [u8])
     requires { Form (length word.old) basis.now.rows basis.now.leads × (free_count (length word.old) basis.now.leads ≤ length message.old) }
     ensures { Carried (length word.old) basis.now.rows basis.now.leads
-        (row_message (length message.old) gear lamp) word.new }
+        (row_message (length message.old) row.gear (lamp_number row.lamp)) word.new }
 {
-    place_row(gear, lamp, message);
+    place_row(row, message);
     carry(message, basis, word);
 }
 
 // The row that the word received carries: what repair refuses it by, 11, or the row. The word is repaired into `word`, which is used as room where no
 // row is read; what it carries is taken out into `message`, and looked at only if the repair succeeded.
 pub fn read(
-    decoder: &Decoder<'_, '_>,
+    code: &Code<'_>,
     leads: &[u8],
     received: &[u8],
     message: &mut [u8],
     word: &mut [u8],
 ) -> Reading
-    requires message_columns { OfCode MessageColumns decoder.now.code leads.now (length message.old) × (row_bits ≤ length message.old) }
-    requires received_len { (length received.now ≡ length decoder.now.code.cols.now) × (length word.old ≡ length decoder.now.code.cols.now) }
-    ensures { OfCode ReadInto decoder.now.code received.now result word.new }
+    requires message_columns { OfCode MessageColumns code.now leads.now (length message.old) × (row_bits ≤ length message.old) }
+    requires received_len { (length received.now ≡ length code.now.cols.now) × (length word.old ≡ length code.now.cols.now) }
+    ensures { OfCode ReadInto code.now received.now result word.new }
 {
-    let recovery = decode(decoder, received, word);
+    let recovery = decode(code, received, word);
     let Recovery::Repaired(turned) = recovery else {
         let Recovery::Refused(refusal) = recovery else {
             unreachable!()

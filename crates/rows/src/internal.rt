@@ -6,9 +6,8 @@ ghost use Rattle.rows.specs.Answers.{write_rules, row_word, reading_answer, read
 
 use crate::{Reading, based};
 use basis::elimination::Basis;
-use gears::{ROW_BITS, is_row};
+use gears::{ROW_BITS, Row};
 use messages::{code_basis, message_columns};
-use nearest::Decoder;
 use parity::Code;
 use refusals::{Refusal, Rule};
 use slices::LONGEST;
@@ -26,29 +25,29 @@ pub fn write(code: &Code<'_>, gear: u32, lamp: u32, word: &mut [u8]) -> Result<(
     if k < ROW_BITS {
         return Err(Refusal(Rule::TooFewBits));
     }
-    if !is_row(gear, lamp) {
+    let Some(row) = Row::allowed(gear, lamp) else {
         return Err(Refusal(Rule::NoSuchRow));
-    }
-    based::write(gear, lamp, &basis, &mut message[..k], word);
+    };
+    based::write(row, &basis, &mut message[..k], word);
     Ok(())
 }
 
 // The row that the word received carries: 12, what repair refuses it by, 11, or the row with the repaired word in `repaired`. The word is repaired
 // apart, and copied out only if it carries a row.
-pub fn read(decoder: &Decoder<'_, '_>, received: &[u8], repaired: &mut [u8]) -> Reading
-    requires { (length received.now ≡ length decoder.now.code.cols.now) × (length repaired.old ≡ length decoder.now.code.cols.now) }
-    ensures value { result ≡ of_code reading_answer decoder.now.code received.now }
-    ensures repaired_after { repaired.new ≡ of_code reading_after decoder.now.code received.now repaired.old }
+pub fn read(code: &Code<'_>, received: &[u8], repaired: &mut [u8]) -> Reading
+    requires { (length received.now ≡ length code.now.cols.now) × (length repaired.old ≡ length code.now.cols.now) }
+    ensures value { result ≡ of_code reading_answer code.now received.now }
+    ensures repaired_after { repaired.new ≡ of_code reading_after code.now received.now repaired.old }
 {
     let mut leads: [u8; LONGEST] = [0; LONGEST];
     let mut word: [u8; LONGEST] = [0; LONGEST];
     let mut message: [u8; LONGEST] = [0; LONGEST];
-    let k = message_columns(&decoder.code, &mut leads);
+    let k = message_columns(code, &mut leads);
     if k < ROW_BITS {
         return Reading::Refused(Refusal(Rule::TooFewBits));
     }
-    let n = decoder.code.cols.len();
-    let reading = based::read(decoder, &leads, received, &mut message[..k], &mut word[..n]);
+    let n = code.cols.len();
+    let reading = based::read(code, &leads, received, &mut message[..k], &mut word[..n]);
     if let Reading::Read(_, _) = reading {
         repaired.copy_from_slice(&word[..n]);
     }

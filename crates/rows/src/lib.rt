@@ -10,15 +10,12 @@ mod internal;
 ghost use Rattle.std.specs.Prelude.{◌≡◌};
 ghost use Rattle.rows.specs.Answers.{write_answer, write_after, read_answer, read_after};
 
-use basis::Column;
+use columns::Room;
 use field::Elem;
 use gears::Row;
-use nearest::Decoder;
 use params::Parameters;
-use parity::Code;
 use refusals::Refusal;
 use shortened::{Lent, Setting, begin};
-use slices::LONGEST;
 
 // What reading gives: the row, with the number of places in which the word was repaired, or the rule that refuses it. An enum of its
 // own, and no Result, since 01 asks for the form by name.
@@ -44,15 +41,11 @@ pub fn write_row(
         others: true,
         words: word.len() == s.places(),
     };
-    let mut inverses: [Elem; LONGEST] = [0; LONGEST];
-    let mut columns: [Column; LONGEST] = [0; LONGEST];
-    let n = begin(c, h, s, lent, &mut inverses, &mut columns)?;
-    let code = Code {
-        c,
-        h,
-        cols: &columns[..n],
-    };
-    internal::write(&code, gear, lamp, word)
+    let mut room = Room::new();
+    match begin(c, h, s, lent, &mut room) {
+        Ok(code) => internal::write(&code, gear, lamp, word),
+        Err(refusal) => Err(refusal),
+    }
 }
 
 // Reads the row that the word received carries, repairing it into the buffer `repaired`, which is written only if a row is read.
@@ -71,21 +64,9 @@ pub fn read_row(
         others: true,
         words: (received.len() == sent) & (repaired.len() == sent),
     };
-    let mut inverses: [Elem; LONGEST] = [0; LONGEST];
-    let mut columns: [Column; LONGEST] = [0; LONGEST];
-    match begin(c, h, s, lent, &mut inverses, &mut columns) {
+    let mut room = Room::new();
+    match begin(c, h, s, lent, &mut room) {
         Err(refusal) => Reading::Refused(refusal),
-        Ok(n) => {
-            let code = Code {
-                c,
-                h,
-                cols: &columns[..n],
-            };
-            let decoder = Decoder {
-                code,
-                inverses: &inverses,
-            };
-            internal::read(&decoder, received, repaired)
-        }
+        Ok(code) => internal::read(&code, received, repaired),
     }
 }

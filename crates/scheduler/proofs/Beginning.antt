@@ -4,6 +4,7 @@ use mathlib.Core.Bool.{Bool, true, ◌&&◌}
 use mathlib.Core.List.{List, [], ◌∷◌, ◌++◌}
 use Prim.Native.Nat.{ℕ, ◌+◌, ◌*◌, ◌<◌, ◌≤◌}
 use native.Mathlib.Omega.{arith}
+use Rattle.std.specs.Prelude.{Result}
 use lib.Dec.{eqb}
 use lib.ListN.{length, set, replicate}
 use borrow.Author.Tests.{eqb-true, ltb-true}
@@ -16,8 +17,8 @@ use Rattle.refusals.specs.Outcome.{Outcome, Done, Refused, tested}
 use Rattle.refusals.specs.Testing.{tested_none, tested_due, handed_on}
 use Rattle.refusals.specs.Rules.{Rule, fault}
 use Rattle.refusals.specs.RuleLaws.{hold, refuse}
-use Rattle.refusals.specs.Counted.{Counted}
 use Rattle.params.specs.declared.Parameters.{Parameters}
+use Rattle.parity.specs.declared.Code.{Code}
 use Rattle.shortened.specs.Begun.{Begun}
 use Rattle.shortened.proofs.BegunLaws.{begun_as, begun_set}
 use Rattle.shortened.specs.Setting.{Setting, places}
@@ -82,10 +83,10 @@ offer_lent d word waiting words n marks t =
     )
 
 -- a call that counted n sent places, and began with the length of all words tested as r
-pub offer_began : (d : Dash) (word words : List ℕ) {c : Parameters} {h : List ℕ} {s s' : Setting} {others r : Bool} {n : ℕ} {columns : List ℕ}
-    {found : Counted}
-    → Begun c h s others (eqb (length word) n && r) columns found → r ≡ eqb (length words) (d.senders * n) → n ≡ places s → s ≡ s'
-    → Begun c h s' others (offer_lengths d word words (places s')) columns found
+pub offer_began : (d : Dash) (word words : List ℕ) {c : Parameters} {h : List ℕ} {s s' : Setting} {others r : Bool} {n : ℕ}
+    {found : Result Code ℕ}
+    → Begun c h s others (eqb (length word) n && r) found → r ≡ eqb (length words) (d.senders * n) → n ≡ places s → s ≡ s'
+    → Begun c h s' others (offer_lengths d word words (places s')) found
 unfolding offer_lengths
 offer_began d word words {n = n} B e counted is =
     begun_set (λ k. eqb (length word) k && eqb (length words) (d.senders * k)) (begun_as B (ap (λ (b : Bool). eqb (length word) n && b) e)) counted is

@@ -3,6 +3,7 @@ use mathlib.Core.Path.{◌≡◌, refl, sym, ap, ap₂, ◌∙◌, subst}
 use mathlib.Core.Bool.{Bool, true, false, cond, not, ◌&&◌, ◌||◌}
 use mathlib.Core.List.{List, [], ◌∷◌, ◌++◌}
 use Prim.Native.Nat.{ℕ, ◌+◌, ◌*◌, ◌<◌, ◌≤◌}
+use Rattle.std.specs.Prelude.{Result}
 use lib.Dec.{eqb, ltb}
 use lib.ListN.{length}
 use Rattle.algebra.specs.Lists.{entry_of}
@@ -15,9 +16,9 @@ use Rattle.refusals.specs.Ending.{ended_done}
 use Rattle.refusals.specs.Outcome.{Outcome, Done, Refused, tested}
 use Rattle.refusals.specs.Rules.{Rule, fault}
 use Rattle.refusals.specs.Testing.{tested_none}
-use Rattle.refusals.specs.Counted.{Counted}
 use Rattle.slices.specs.BitLaws.{received_bits}
 use Rattle.params.specs.declared.Parameters.{Parameters}
+use Rattle.parity.specs.declared.Code.{Code}
 use Rattle.parity.specs.Word.{is_code_word}
 use Rattle.repair.specs.Decoding.{word_answer, word_after}
 use Rattle.shortened.specs.Begun.{Begun}
@@ -225,11 +226,11 @@ module _ (c : Parameters) (h cols : List ℕ) {d : Dash} {σ : State} {answers h
 -- ---- the call
 
 -- a call that counted n sent places, and began with the lengths of the words and of those that are handed out tested as q and r
-pub round_began : (d : Dash) (σ : State) (answers handed : List ℕ) {c : Parameters} {h : List ℕ} {s s' : Setting} {q r : Bool} {n : ℕ} {columns : List ℕ}
-    {found : Counted}
-    → Begun c h s (eqb (length σ.waiting) d.senders && eqb (length σ.next) 1 && eqb (length answers) d.senders) (q && r) columns found
+pub round_began : (d : Dash) (σ : State) (answers handed : List ℕ) {c : Parameters} {h : List ℕ} {s s' : Setting} {q r : Bool} {n : ℕ}
+    {found : Result Code ℕ}
+    → Begun c h s (eqb (length σ.waiting) d.senders && eqb (length σ.next) 1 && eqb (length answers) d.senders) (q && r) found
     → q ≡ eqb (length σ.words) (d.senders * n) → r ≡ eqb (length handed) (d.senders * n) → n ≡ places s → s ≡ s'
-    → Begun c h s' (round_lengths d σ answers) (round_words d σ handed (places s')) columns found
+    → Begun c h s' (round_lengths d σ answers) (round_words d σ handed (places s')) found
 unfolding round_lengths round_words
 round_began d σ answers handed B e f counted is =
     begun_set (λ k. eqb (length σ.words) (d.senders * k) && eqb (length handed) (d.senders * k))

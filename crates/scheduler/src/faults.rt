@@ -15,10 +15,10 @@ use slices::all_bits;
 pub(crate) fn check_dash(d: Dash) -> Result<(), Refusal>
     ensures { result ≡ tested (fault (dash_rules d)) }
 {
-    if !((1 <= d.senders) & (d.senders <= MOST_SENDERS as u32)) {
+    if !(1..=MOST_SENDERS as u32).contains(&d.senders) {
         return Err(Refusal(Rule::Sender));
     }
-    if !((1 <= d.repairs) & (d.repairs <= MOST_REPAIRS)) {
+    if !(1..=MOST_REPAIRS).contains(&d.repairs) {
         return Err(Refusal(Rule::Sender));
     }
     Ok(())
@@ -56,6 +56,7 @@ fn is_word(n: usize, p: usize, waiting: &[u8], words: &[u8]) -> bool
     if waiting[p] != 1 {
         return true;
     }
+    // Cut by hand: `chunks_exact` asks that n is not 0, which the number of places of a code does not tell.
     let start = p * n;
     let end = start + n;
     all_bits(&words[start..end])

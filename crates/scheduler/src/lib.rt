@@ -2,7 +2,8 @@
 // turn, so many in a round, so that no sender starves.
 //
 // The caller keeps the state: `waiting`, a mark for each sender, 1 where it has a word waiting; `words`, a word for each, one after the other; and
-// `next`, a single number, the sender whose turn it is. The code is checked once a call.
+// `next`, a single number, the sender whose turn it is. C lends them one by one, and they go on so: `waiting` and `next` are written, and a struct that
+// held their `&mut` would need a clause in each contract that it keeps them. The code is checked once a call.
 #![tactic(auto)]
 
 mod faults;
@@ -15,22 +16,18 @@ ghost use Rattle.scheduler.specs.Answers.{start_answer, start_waiting, start_nex
 ghost use Rattle.scheduler.specs.Answers.{round_answer, waiting_after, next_after, answers_after, handed_after};
 ghost use Rattle.scheduler.specs.Parts.{StartEnded, OfferEnded, LentOffer};
 
-use basis::Column;
-use columns::is_parts_length;
+use columns::{Room, is_parts_length};
 use field::Elem;
-use nearest::Decoder;
 use params::Parameters;
-use parity::Code;
 use refusals::Refusal;
 use shortened::{Lent, Setting, begin};
-use slices::LONGEST;
 
 // The most senders, and the most repairs in a round.
 pub const MOST_SENDERS: usize = 8;
 
 pub const MOST_REPAIRS: u32 = 8;
 
-// The answer to a sender whose word did not leave: the pattern of INT32_MIN.
+// The answer to a sender whose word did not leave: the pattern of INT32_MIN, a number as the others are in the list that C lends.
 pub const NONE: u32 = 1 << 31;
 
 // How many senders a dash listens to, and how many words it repairs in a round.
@@ -58,10 +55,11 @@ pub fn start(
         others: (waiting.len() == d.senders as usize) & (next.len() == 1),
         words: true,
     };
-    let mut inverses: [Elem; LONGEST] = [0; LONGEST];
-    let mut columns: [Column; LONGEST] = [0; LONGEST];
-    begin(c, h, &s, lent, &mut inverses, &mut columns)?;
-    start_on(d, waiting, next)
+    let mut room = Room::new();
+    match begin(c, h, &s, lent, &mut room) {
+        Ok(_) => start_on(d, waiting, next),
+        Err(refusal) => Err(refusal),
+    }
 }
 
 // The start for an accepted code, or 18.
@@ -101,10 +99,11 @@ pub fn offer(
         others: waiting.len() == senders,
         words: (word.len() == sent) & is_parts_length(words.len(), senders, sent),
     };
-    let mut inverses: [Elem; LONGEST] = [0; LONGEST];
-    let mut columns: [Column; LONGEST] = [0; LONGEST];
-    begin(c, h, &s, lent, &mut inverses, &mut columns)?;
-    offer_on(d, sender as usize, word, waiting, words)
+    let mut room = Room::new();
+    match begin(c, h, &s, lent, &mut room) {
+        Ok(_) => offer_on(d, sender as usize, word, waiting, words),
+        Err(refusal) => Err(refusal),
+    }
 }
 
 // The offer for an accepted code, or 18, 19 or 8.
@@ -119,6 +118,7 @@ fn offer_on(
     ensures { OfferEnded d sender word.now waiting.old words.old result waiting.new words.new }
 {
     faults::check_offer(d, sender, word, waiting)?;
+    // Cut by hand, as in `rounds`.
     let start = sender * word.len();
     let end = start + word.len();
     words[start..end].copy_from_slice(word);
@@ -166,17 +166,9 @@ pub fn round(
         others,
         words: words_long & handed_long,
     };
-    let mut inverses: [Elem; LONGEST] = [0; LONGEST];
-    let mut columns: [Column; LONGEST] = [0; LONGEST];
-    let n = begin(c, h, &s, lent, &mut inverses, &mut columns)?;
-    let code = Code {
-        c,
-        h,
-        cols: &columns[..n],
-    };
-    let decoder = Decoder {
-        code,
-        inverses: &inverses,
-    };
-    rounds::round_on(&decoder, d, waiting, words, next, answers, handed)
+    let mut room = Room::new();
+    match begin(c, h, &s, lent, &mut room) {
+        Ok(code) => rounds::round_on(&code, d, waiting, words, next, answers, handed),
+        Err(refusal) => Err(refusal),
+    }
 }

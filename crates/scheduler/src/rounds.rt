@@ -9,7 +9,7 @@ ghost use Rattle.scheduler.specs.Parts.{mark_of, answer_of, handed_of, marks_of,
 ghost use Rattle.scheduler.specs.Parts.{Words, LentHands, LentRound, Made, LentState, RoundEnded};
 
 use crate::{Dash, MOST_SENDERS, NONE, faults};
-use nearest::{Decoder, is_code_word};
+use nearest::is_code_word;
 use parity::Code;
 use refusals::Refusal;
 use repair::decoder;
@@ -37,7 +37,8 @@ fn mark_all(code: &Code<'_>, waiting: &[u8], words: &[u8], marks: &mut [Mark])
     ensures { marks.new ≡ of_code marks_of code.now waiting.now words.now }
 {
     let n = code.cols.len();
-    // Cut by hand: `chunks_exact` asks that n is not 0, which a code on its columns does not tell.
+    // Cut by hand: `chunks_exact` asks that n is not 0, which a code on its columns does not tell. By index, since std says nothing of what is written
+    // after an adapter of `iter_mut`, as `zip`.
     for (p, to) in marks.iter_mut().enumerate() {
         let start = p * n;
         let end = start + n;
@@ -45,13 +46,13 @@ fn mark_all(code: &Code<'_>, waiting: &[u8], words: &[u8], marks: &mut [Mark])
     }
 }
 
-// The answer to a sender by its mark, and the word that it is handed: a code word is its own repair.
-fn hand_one(decoder: &Decoder<'_, '_>, mark: Mark, word: &[u8], handed: &mut [u8]) -> u32
-    requires word_len { (length word.now ≡ length decoder.now.code.cols.now) × (length handed.old ≡ length decoder.now.code.cols.now) }
-    requires bits { mark ≡ CodeWord → IsBits (length decoder.now.code.cols.now) word.now
-        × (of_code is_code_word decoder.now.code word.now ≡ true) }
-    ensures value { result ≡ of_code answer_of decoder.now.code mark word.now }
-    ensures handed_after { handed.new ≡ of_code handed_of decoder.now.code mark word.now handed.old }
+// The answer to a sender by its mark, as the number that C is told, and the word that it is handed: a code word is its own repair.
+fn hand_one(code: &Code<'_>, mark: Mark, word: &[u8], handed: &mut [u8]) -> u32
+    requires word_len { (length word.now ≡ length code.now.cols.now) × (length handed.old ≡ length code.now.cols.now) }
+    requires bits { mark ≡ CodeWord → IsBits (length code.now.cols.now) word.now
+        × (of_code is_code_word code.now word.now ≡ true) }
+    ensures value { result ≡ of_code answer_of code.now mark word.now }
+    ensures handed_after { handed.new ≡ of_code handed_of code.now mark word.now handed.old }
 {
     match mark {
         Mark::Stays => NONE,
@@ -59,34 +60,23 @@ fn hand_one(decoder: &Decoder<'_, '_>, mark: Mark, word: &[u8], handed: &mut [u8
             handed.copy_from_slice(word);
             0
         }
-        Mark::Other => recovery_code(decoder::repair(decoder, word, handed)),
+        Mark::Other => recovery_code(decoder::repair(code, word, handed)),
     }
 }
 
 // The same for all senders.
-fn hand_out(
-    decoder: &Decoder<'_, '_>,
-    marks: &[Mark],
-    words: &[u8],
-    answers: &mut [u32],
-    handed: &mut [u8],
-)
-    requires { OfCode LentHands decoder.now.code marks.now words.now answers.old handed.old }
-    ensures answers_after { answers.new ≡ of_code answers_of decoder.now.code marks.now words.now }
+fn hand_out(code: &Code<'_>, marks: &[Mark], words: &[u8], answers: &mut [u32], handed: &mut [u8])
+    requires { OfCode LentHands code.now marks.now words.now answers.old handed.old }
+    ensures answers_after { answers.new ≡ of_code answers_of code.now marks.now words.now }
     ensures handed_after { handed.new
-        ≡ of_code handed_parts decoder.now.code marks.now words.now handed.old }
+        ≡ of_code handed_parts code.now marks.now words.now handed.old }
 {
-    let n = decoder.code.cols.len();
+    let n = code.cols.len();
     // As in `mark_all`.
     for (p, answer) in answers.iter_mut().enumerate() {
         let start = p * n;
         let end = start + n;
-        *answer = hand_one(
-            decoder,
-            marks[p],
-            &words[start..end],
-            &mut handed[start..end],
-        );
+        *answer = hand_one(code, marks[p], &words[start..end], &mut handed[start..end]);
     }
 }
 
@@ -95,6 +85,7 @@ fn dismiss(marks: &[Mark], waiting: &mut [u8])
     requires { length marks.now ≡ length waiting.old }
     ensures { waiting.new ≡ waiting_of marks.now waiting.old }
 {
+    // By index: std says nothing of what is written after an adapter of `iter_mut`, as `zip`.
     for (p, wait) in waiting.iter_mut().enumerate() {
         if !marks[p].stays() {
             *wait = 0;
@@ -104,7 +95,7 @@ fn dismiss(marks: &[Mark], waiting: &mut [u8])
 
 // Makes the round, with room for a mark for each sender.
 fn make(
-    decoder: &Decoder<'_, '_>,
+    code: &Code<'_>,
     repairs: u32,
     waiting: &mut [u8],
     words: &[u8],
@@ -113,20 +104,20 @@ fn make(
     answers: &mut [u32],
     handed: &mut [u8],
 )
-    requires { LentRound (length decoder.now.code.cols.now) (state_of waiting.old words.now next.old) marks.old answers.old handed.old }
-    ensures { OfCode Made decoder.now.code repairs (state_of waiting.old words.now next.old)
+    requires { LentRound (length code.now.cols.now) (state_of waiting.old words.now next.old) marks.old answers.old handed.old }
+    ensures { OfCode Made code.now repairs (state_of waiting.old words.now next.old)
         handed.old waiting.new next.new answers.new handed.new }
 {
-    mark_all(&decoder.code, waiting, words, marks);
+    mark_all(code, waiting, words, marks);
     let turn = take_turns(repairs, next[0] as usize, marks);
-    hand_out(decoder, marks, words, answers, handed);
+    hand_out(code, marks, words, answers, handed);
     dismiss(marks, waiting);
     next[0] = turn as u32;
 }
 
 // The round, or 18 or 8.
 pub(crate) fn round_on(
-    decoder: &Decoder<'_, '_>,
+    code: &Code<'_>,
     d: Dash,
     waiting: &mut [u8],
     words: &[u8],
@@ -134,15 +125,15 @@ pub(crate) fn round_on(
     answers: &mut [u32],
     handed: &mut [u8],
 ) -> Result<(), Refusal>
-    requires { LentState d (length decoder.now.code.cols.now) (state_of waiting.old words.now next.old) answers.old handed.old }
-    ensures { OfCode RoundEnded decoder.now.code d (state_of waiting.old words.now next.old)
+    requires { LentState d (length code.now.cols.now) (state_of waiting.old words.now next.old) answers.old handed.old }
+    ensures { OfCode RoundEnded code.now d (state_of waiting.old words.now next.old)
         answers.old handed.old result waiting.new next.new answers.new handed.new }
 {
-    faults::check_state(d, decoder.code.cols.len(), waiting, words, next[0])?;
+    faults::check_state(d, code.cols.len(), waiting, words, next[0])?;
     let mut marks: [Mark; MOST_SENDERS] = [Mark::Stays; MOST_SENDERS];
     let senders = waiting.len();
     make(
-        decoder,
+        code,
         d.repairs,
         waiting,
         words,

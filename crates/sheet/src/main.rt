@@ -13,7 +13,8 @@ fn print(rt: &impl Print, text: &[u8], out: &mut [u8]) -> io::Result<()> {
     Ok(())
 }
 
-// Reads from the input until the buffer is full or the input ends, and says how many bytes were read.
+// Reads from the input until the buffer is full or the input ends, and says how many bytes were read. By hand: std's `read_exact` does not say how
+// far a shorter input went, `read_to_end` allocates, and what `io::copy` says of its count does not bound it by a buffer.
 fn read_full<R: Read>(input: &mut R, buffer: &mut [u8]) -> io::Result<usize>
     ensures { IfOk result (λ n. n ≤ length buffer.new) }
 {
@@ -28,23 +29,6 @@ fn read_full<R: Read>(input: &mut R, buffer: &mut [u8]) -> io::Result<usize>
     Ok(length)
 }
 
-// Reads some of what is left of the input, and says whether there was any.
-fn skip<R: Read>(input: &mut R) -> io::Result<bool> {
-    let mut buffer = [0u8; 4096];
-    let read = input.read(&mut buffer)?;
-    Ok(0 < read)
-}
-
-// Reads what is left of the input, so that whoever writes it can end. Nothing says that an input ends, so the loop counts its turns down, from a
-// number that no run uses up.
-fn skip_rest<R: Read>(input: &mut R) -> io::Result<()> {
-    let mut turns = u64::MAX;
-    while turns > 0 && skip(input)? {
-        turns -= 1;
-    }
-    Ok(())
-}
-
 fn main(rt: HostRuntime) -> io::Result<()> {
     // One byte more than the longest sheet has: a text that fills the buffer is no sheet, whatever follows.
     let mut text = [0u8; sheets::LONGEST_SHEET + 1];
@@ -53,7 +37,8 @@ fn main(rt: HostRuntime) -> io::Result<()> {
     let length = read_full(&mut input, &mut text)?;
     print(&rt, &text[..length], &mut out)?;
     if length == text.len() {
-        skip_rest(&mut input)?;
+        // What is left is read too, so that whoever writes it can end.
+        io::copy(&mut input, &mut io::sink())?;
     }
     Ok(())
 }

@@ -1,28 +1,25 @@
--- How a call goes on: what its beginning refuses is refused, and what that lets pass is left to the work for the columns that it numbered.
-use Rattle.std.specs.Prelude.{◌≡◌, ◌≢◌, Bool, true, List, ◌++◌, ℕ, ◌≤◌, length, take}
-use Rattle.std.proofs.Common.{sym, ap, ◌∙◌, subst, arith}
-use Rattle.std.proofs.lemmas.List.{length-take}
-use Rattle.refusals.specs.Counted.{Counted}
-use Rattle.refusals.specs.Counted.{Count, Refused as NotCounted}
+-- How a call goes on: what its beginning refuses is refused, and what that lets pass is left to the work for the code that it found.
+use Rattle.std.specs.Prelude.{◌≡◌, ◌≢◌, Bool, true, List, ◌++◌, ℕ, Result, Ok, Err, length}
+use Rattle.std.proofs.Common.{sym, ap, ◌∙◌, subst}
 use Rattle.refusals.specs.Outcome.{Outcome, Done, Refused}
 use Rattle.refusals.specs.Ending.{Ended, first_refuses, second_decides}
 use Rattle.refusals.specs.Rules.{Rule, fault, unless_refused}
+use Rattle.signature.specs.Inverses.{Inverted}
 use Rattle.params.specs.declared.Parameters.{Parameters}
 use Rattle.params.specs.Code.{Accepted}
-use Rattle.parity.specs.Selected.{OnColumns}
-use Rattle.columns.proofs.ListedLaws.{found_due, found_none}
-use Rattle.shortened.specs.Begun.{Begun}
+use Rattle.parity.specs.declared.Code.{Code}
+use Rattle.parity.specs.OfCode.{of_code}
+use Rattle.shortened.specs.Begun.{Begun, OnSent}
 use Rattle.shortened.specs.Fits.{Fits}
 use Rattle.shortened.specs.Setting.{Setting, places, columns_of, setting_rules}
-use Rattle.shortened.proofs.SettingLaws.{setting_numbered, setting_accepted, fits_columns, length_columns}
+use Rattle.shortened.proofs.SettingLaws.{setting_numbered, setting_accepted, length_columns}
 
-module _ {c : Parameters} {h : List ℕ} {s : Setting} {others words : Bool} {columns : List ℕ} {found : Counted}
-    (B : Begun c h s others words columns found) where
+module _ {c : Parameters} {h : List ℕ} {s : Setting} {others words : Bool} {found : Result Code ℕ} (B : Begun c h s others words found) where
   -- ---- what a refusal makes of an answer, or of a buffer
 
-  module _ {number : ℕ} (e : found ≡ NotCounted number) where
+  module _ {number : ℕ} (e : found ≡ Err number) where
     pub begun_due : (number ≡ fault (setting_rules c h s others words)) × (number ≢ 0)
-    begun_due = found_due (setting_rules c h s others words) (places s) B.answer e
+    begun_due = B.refused number e
 
     pub begun_refuses : {A : Type 0} (more : List Rule) (refused : ℕ → A) (value : A)
         → refused number ≡ unless_refused (fault (setting_rules c h s others words ++ more)) refused value
@@ -34,64 +31,65 @@ module _ {c : Parameters} {h : List ℕ} {s : Setting} {others words : Bool} {co
         × (old ≡ unless_refused (fault (setting_rules c h s others words ++ more)) (λ i. old) value)
     begun_refuses_both more old value = (begun_refuses more Refused Done, begun_refuses more (λ i. old) value)
 
-  -- ---- k places
+  -- ---- a code
 
-  module _ {k : ℕ} (e : found ≡ Count k) where
+  module _ {code : Code} (e : found ≡ Ok code) where
     pub begun_none : fault (setting_rules c h s others words) ≡ 0
-    begun_none = (found_none (setting_rules c h s others words) (places s) B.answer e).0
-
-    pub begun_places : k ≡ places s
-    begun_places = (found_none (setting_rules c h s others words) (places s) B.answer e).1
+    begun_none = (B.passed code e).0
 
     pub begun_accepted : (others ≡ true) × (words ≡ true) × Accepted c h × Fits c h s
     begun_accepted = setting_accepted c h s others words begun_none
 
-    pub begun_numbered : take k columns ≡ columns_of c s
-    begun_numbered = ap (λ (i : ℕ). take i columns) begun_places ∙ B.numbered begun_none
+    -- its inverses are those of the signature
+    pub begun_inverted : Inverted c.m h code.inverses.now
+    begun_inverted =
+        let S : OnSent c h s code = (B.passed code e).1 in
+        subst (λ (h : List ℕ). Inverted c.m h code.inverses.now) S.signature
+        (subst (λ (c : Parameters). Inverted c.m code.h.now code.inverses.now) S.parameters code.inverted)
 
-    pub begun_columns : OnColumns c h (take k columns)
-    begun_columns =
-        let (o, w, A, F) = begun_accepted in subst (OnColumns c h) (sym begun_numbered) (fits_columns A s F)
+    -- what is said of the code that was found is said of the columns of the setting
+    pub of_begun : {A : Type 0} (f : Parameters → List ℕ → List ℕ → A) → of_code f code ≡ f c h (columns_of c s)
+    of_begun f =
+        let S : OnSent c h s code = (B.passed code e).1 in
+        ap (λ (c : Parameters). f c code.h.now code.cols.now) S.parameters
+        ∙ ap (λ (h : List ℕ). f c h code.cols.now) S.signature
+        ∙ ap (f c h) S.columns
 
     -- a word has an entry for each column
-    pub begun_long : {l : ℕ} → l ≡ places s → l ≡ length (take k columns)
-    begun_long q = q ∙ sym (ap length begun_numbered ∙ length_columns c s)
+    pub begun_long : {l : ℕ} → l ≡ places s → l ≡ length code.cols.now
+    begun_long q = q ∙ sym (of_begun (λ c h cols. length cols) ∙ length_columns c s)
 
-    -- so the list is long enough
-    pub begun_fits : k ≤ length columns
-    begun_fits = omega (arith, begun_long begun_places, length-take k columns)
-
-    -- What holds for the columns found holds at the setting: the rules of the call's own, and the value, depend on the columns.
-    pub begun_passes : {A : Type 0} (more : List ℕ → List Rule) (refused : ℕ → A) (value : List ℕ → A) {x : A}
-        → x ≡ unless_refused (fault (more (take k columns))) refused (value (take k columns))
-        → x ≡ unless_refused (fault (setting_rules c h s others words ++ more (columns_of c s))) refused (value (columns_of c s))
+    -- What holds for the code found holds at the setting: the rules of the call's own, and the value, depend on it.
+    pub begun_passes : {A : Type 0} (more : Parameters → List ℕ → List ℕ → List Rule) (refused : ℕ → A) (value : Parameters → List ℕ → List ℕ → A)
+        {x : A} → x ≡ unless_refused (fault (of_code more code)) refused (of_code value code)
+        → x ≡ unless_refused (fault (setting_rules c h s others words ++ more c h (columns_of c s))) refused (value c h (columns_of c s))
     begun_passes more refused value q =
-        second_decides (setting_rules c h s others words) (more (columns_of c s)) refused (value (columns_of c s))
+        second_decides (setting_rules c h s others words) (more c h (columns_of c s)) refused (value c h (columns_of c s))
         (setting_numbered c h s others words) begun_none
-        (q ∙ ap (λ (cols : List ℕ). unless_refused (fault (more cols)) refused (value cols)) begun_numbered)
+        (q ∙ of_begun (λ c h cols. unless_refused (fault (more c h cols)) refused (value c h cols)))
 
     -- an outcome and a buffer at once
-    pub begun_ends : (more : List ℕ → List Rule) (value : List ℕ → List ℕ) {j : Outcome} {old new : List ℕ}
-        → Ended j (more (take k columns)) old (value (take k columns)) new
-        → (j ≡ unless_refused (fault (setting_rules c h s others words ++ more (columns_of c s))) Refused Done)
-        × (new ≡ unless_refused (fault (setting_rules c h s others words ++ more (columns_of c s))) (λ i. old) (value (columns_of c s)))
+    pub begun_ends : (more : Parameters → List ℕ → List ℕ → List Rule) (value : Parameters → List ℕ → List ℕ → List ℕ) {j : Outcome}
+        {old new : List ℕ} → Ended j (of_code more code) old (of_code value code) new
+        → (j ≡ unless_refused (fault (setting_rules c h s others words ++ more c h (columns_of c s))) Refused Done)
+        × (new ≡ unless_refused (fault (setting_rules c h s others words ++ more c h (columns_of c s))) (λ i. old) (value c h (columns_of c s)))
     begun_ends more value {j} {old} E = (
-      begun_passes more Refused (λ cols. Done) E.outcome,
+      begun_passes more Refused (λ c h cols. Done) E.outcome,
       begun_passes more (λ i. old) value E.buffer,
     )
 
 -- what a call found of the words' lengths, in the words of its definition
-pub begun_as : {c : Parameters} {h : List ℕ} {s : Setting} {others words words' : Bool} {columns : List ℕ} {found : Counted}
-    → Begun c h s others words columns found → words ≡ words' → Begun c h s others words' columns found
-begun_as {c} {h} {s} {others} {columns = columns} {found = found} B e = subst (λ (w : Bool). Begun c h s others w columns found) e B
+pub begun_as : {c : Parameters} {h : List ℕ} {s : Setting} {others words words' : Bool} {found : Result Code ℕ}
+    → Begun c h s others words found → words ≡ words' → Begun c h s others words' found
+begun_as {c} {h} {s} {others} {found = found} B e = subst (λ (w : Bool). Begun c h s others w found) e B
 
 -- `words` tests them by the number of sent places, which the call counted
-pub begun_sent : (words : ℕ → Bool) {c : Parameters} {h : List ℕ} {s : Setting} {others : Bool} {n : ℕ} {columns : List ℕ} {found : Counted}
-    → Begun c h s others (words n) columns found → n ≡ places s → Begun c h s others (words (places s)) columns found
+pub begun_sent : (words : ℕ → Bool) {c : Parameters} {h : List ℕ} {s : Setting} {others : Bool} {n : ℕ} {found : Result Code ℕ}
+    → Begun c h s others (words n) found → n ≡ places s → Begun c h s others (words (places s)) found
 begun_sent words B e = begun_as B (ap words e)
 
 -- the same at the setting by its definition, which the call made first
-pub begun_set : (words : ℕ → Bool) {c : Parameters} {h : List ℕ} {s s' : Setting} {others : Bool} {n : ℕ} {columns : List ℕ} {found : Counted}
-    → Begun c h s others (words n) columns found → n ≡ places s → s ≡ s' → Begun c h s' others (words (places s')) columns found
-begun_set words {c} {h} {others = others} {columns = columns} {found = found} B e is =
-    subst (λ (s : Setting). Begun c h s others (words (places s)) columns found) is (begun_sent words B e)
+pub begun_set : (words : ℕ → Bool) {c : Parameters} {h : List ℕ} {s s' : Setting} {others : Bool} {n : ℕ} {found : Result Code ℕ}
+    → Begun c h s others (words n) found → n ≡ places s → s ≡ s' → Begun c h s' others (words (places s')) found
+begun_set words {c} {h} {others = others} {found = found} B e is =
+    subst (λ (s : Setting). Begun c h s others (words (places s)) found) is (begun_sent words B e)

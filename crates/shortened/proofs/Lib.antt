@@ -1,3 +1,4 @@
+pub mod Beginning
 pub mod BegunLaws
 pub mod Marking
 pub mod NothingHidden

@@ -40,7 +40,7 @@ pub fn check_signature(m: u32, h: &[Elem], inverses: &mut [Elem]) -> Result<(), 
 pub fn no_zero(h: &[Elem]) -> bool
     ensures { result ≡ no_zero h.now }
 {
-    h.iter().all(|x| *x != 0)
+    !h.contains(&0)
 }
 
 // 01's rule for 1/h. The inverses are computed once.
@@ -75,6 +75,7 @@ fn multiply(m: u32, h: &[Elem], products: &mut [Elem]) -> Elem
     ensures products_after { products.new ≡ filled (before m h.now) (length h.now) products.old }
 {
     let mut before: Elem = 1;
+    // By index: the list that is written may be longer than the signature.
     for (i, entry) in h.iter().enumerate() {
         products[i] = before;
         before = product(m, before, *entry);
@@ -119,25 +120,17 @@ pub fn store_roots(inverses: &[Elem], offset: Elem, roots: &mut [Elem])
     requires { length roots.old ≤ length inverses.now }
     ensures { roots.new ≡ tabulate (length roots.old) (added inverses.now offset) }
 {
-    add_each(inverses, offset, roots);
+    for (i, root) in roots.iter_mut().enumerate() {
+        *root = inverses[i] ^ offset;
+    }
 }
 
-// The support that they give.
+// The support that they give: what an offset with 1/h_0 in it gives for roots.
 pub fn store_support(inverses: &[Elem], offset: Elem, support: &mut [Elem])
     requires { (0 < length inverses.now) × (length support.old ≤ length inverses.now) }
     ensures { support.new
         ≡ tabulate (length support.old) (added inverses.now (added inverses.now offset 0)) }
 {
     let first = inverses[0];
-    add_each(inverses, first ^ offset, support);
-}
-
-// The entries of a with x added to each, as many as `out` holds.
-fn add_each(a: &[Elem], x: Elem, out: &mut [Elem])
-    requires { length out.old ≤ length a.now }
-    ensures { out.new ≡ tabulate (length out.old) (added a.now x) }
-{
-    for (i, to) in out.iter_mut().enumerate() {
-        *to = a[i] ^ x;
-    }
+    store_roots(inverses, first ^ offset, support);
 }

@@ -1,23 +1,14 @@
--- The marks of step i lie inside all marks, and are bits where nothing refuses the step.
+-- The marks of step i lie inside all marks.
 use mathlib.Core.Path.{◌≡◌, sym, ap, ap₂, ◌∙◌, subst}
 use mathlib.Core.List.{List}
 use Prim.Native.Nat.{ℕ, ◌+◌, ◌*◌, ◌<◌, ◌≤◌}
 use native.Mathlib.Nat.{le_trans, mul-le-mul_left, mul-le-mul_right}
 use lib.ListN.{length}
 use Rattle.algebra.specs.PartLaws.{part_room}
-use Rattle.refusals.specs.Rules.{fault}
-use Rattle.refusals.specs.RuleLaws.{hold}
-use Rattle.slices.specs.Bits.{Bits}
-use Rattle.slices.specs.BitLaws.{bits_are}
 use Rattle.slices.specs.Lengths.{longest}
 use Rattle.simulation.specs.Answers.{longest_ride}
 use Rattle.simulation.specs.Lent.{LentSteps}
-use Rattle.simulation.specs.Steps.{Steps, step_count, step_rules}
-
--- a step that nothing refuses has bits for marks
-pub step_bits : (gear lamp : ℕ) (marks : List ℕ) → fault (step_rules gear lamp marks) ≡ 0 → Bits marks
-unfolding step_rules
-step_bits gear lamp marks none = (bits_are marks).0 (hold (step_rules gear lamp marks) tt none).0
+use Rattle.simulation.specs.Steps.{Steps, step_count}
 
 -- what a step comes to, by the same gear, lamp and marks
 pub step_alike : {A : Type 0} (f : ℕ → ℕ → List ℕ → A) {g g' l l' : ℕ} {m m' : List ℕ} → g ≡ g' → l ≡ l' → m ≡ m' → f g l m ≡ f g' l' m'

@@ -4,3 +4,4 @@ pub mod Answers
 pub mod Parts
 pub mod Lent
 pub mod LentLaws
+pub mod Lending

@@ -10,22 +10,21 @@ ghost use Rattle.std.specs.Prelude.{◌≡◌, length};
 ghost use Rattle.parity.specs.OfCode.{OfCode};
 ghost use Rattle.shortened.specs.Setting.{short_code};
 ghost use Rattle.simulation.specs.Steps.{steps_of};
+ghost use Rattle.simulation.specs.Lending.{steps_in};
 ghost use Rattle.simulation.specs.Answers.{ride_answer, ride_after};
 ghost use Rattle.simulation.specs.Lent.{LentSteps};
 ghost use Rattle.simulation.specs.Parts.{RideEnded};
 
-use basis::Column;
 use basis::elimination::Basis;
-use columns::is_parts_length;
+use columns::{Room, is_parts_length};
 use field::Elem;
 use gears::ROW_BITS;
 use messages::code_basis;
-use nearest::Decoder;
 use params::Parameters;
 use parity::Code;
 use refusals::{Refusal, Rule};
 use shortened::{Lent, Setting, begin};
-use slices::LONGEST;
+use steps::Steps;
 
 // The most steps of a ride.
 const LONGEST_RIDE: usize = 1000;
@@ -63,38 +62,30 @@ pub fn ride(
         others,
         words: is_parts_length(turned.len(), count, s.places()),
     };
-    let mut inverses: [Elem; LONGEST] = [0; LONGEST];
-    let mut columns: [Column; LONGEST] = [0; LONGEST];
-    let n = begin(c, h, &s, lent, &mut inverses, &mut columns)?;
-    let code = Code {
-        c,
-        h,
-        cols: &columns[..n],
-    };
-    let decoder = Decoder {
-        code,
-        inverses: &inverses,
-    };
-    ride_on(&decoder, gears, lamps, turned, counts)
+    let mut room = Room::new();
+    match begin(c, h, &s, lent, &mut room) {
+        Ok(code) => {
+            let steps = Steps {
+                gears,
+                lamps,
+                turned,
+            };
+            ride_on(&code, &steps, counts)
+        }
+        Err(refusal) => Err(refusal),
+    }
 }
 
 // The ride for an accepted code and any list of its columns: 12, or what ends the ride.
 #[inline(never)]
-fn ride_on(
-    decoder: &Decoder<'_, '_>,
-    gears: &[u8],
-    lamps: &[u8],
-    turned: &[u8],
-    counts: &mut [u32],
-) -> Result<(), Refusal>
-    requires { LentSteps (length decoder.now.code.cols.now) (steps_of gears.now lamps.now turned.now) counts.old }
-    ensures { OfCode RideEnded decoder.now.code (steps_of gears.now lamps.now turned.now)
-        counts.old result counts.new }
+fn ride_on(code: &Code<'_>, steps: &Steps<'_>, counts: &mut [u32]) -> Result<(), Refusal>
+    requires { LentSteps (length code.now.cols.now) (steps_in steps.now) counts.old }
+    ensures { OfCode RideEnded code.now (steps_in steps.now) counts.old result counts.new }
 {
     let mut basis = Basis::new();
-    let k = code_basis(&decoder.code, &mut basis);
+    let k = code_basis(code, &mut basis);
     if k < ROW_BITS {
         return Err(Refusal(Rule::TooFewBits));
     }
-    steps::make_all(decoder, &basis, k, gears, lamps, turned, counts)
+    steps::make_all(code, &basis, k, steps, counts)
 }

@@ -1,7 +1,7 @@
 // What every call asks of the slices that it is lent.
 #![tactic(auto)]
 
-ghost use Rattle.std.specs.Prelude.{◌≡◌};
+ghost use Rattle.std.specs.Prelude.{◌≡◌, ℕ, ◌<◌, length, get_or};
 ghost use Rattle.field.specs.Gf.{Width};
 ghost use Rattle.slices.specs.Lengths.{is_power};
 ghost use Rattle.slices.specs.Elements.{all_elements};
@@ -9,6 +9,7 @@ ghost use Rattle.slices.specs.Bits.{all_bits};
 
 use field::Elem;
 use field::internal::is_element;
+use std::ops::BitXorAssign;
 
 // The longest block and the longest word have 2^LONGEST_LOG entries.
 pub const LONGEST_LOG: usize = 9;
@@ -35,4 +36,16 @@ pub fn all_bits(a: &[u8]) -> bool
     ensures { result ≡ all_bits a.now }
 {
     a.iter().all(|x| *x < 2)
+}
+
+// Adds the entries of a slice to those of another, each at its place, by exclusive or.
+pub fn add<T: Copy + BitXorAssign>(from: &[T], to: &mut [T])
+    requires addable { (x y : T) → T.can_bitxor_assign x y }
+    requires long { length from.now ≡ length to.old }
+    ensures same_length { length to.new ≡ length to.old }
+    ensures sums { (k : ℕ) (x : T) → k < length to.old → T.bitxor_assign_gives (get_or to.old k x) (get_or from.now k x) (get_or to.new k x) }
+{
+    for (i, entry) in to.iter_mut().enumerate() {
+        *entry ^= from[i];
+    }
 }

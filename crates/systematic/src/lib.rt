@@ -19,6 +19,7 @@ pub fn roles(leads: &[u8], out: &mut [u8])
     requires { length out.old ≤ length leads.now }
     ensures { out.new ≡ tabulate (length out.old) (λ p. cond (free_at leads.now p) 1 0) }
 {
+    // By index: std says nothing of what is written after an adapter of `iter_mut`, as `zip`.
     for (p, role) in out.iter_mut().enumerate() {
         *role = u8::from(leads[p] != 1);
     }
@@ -30,6 +31,7 @@ fn place(message: &[u8], leads: &[u8], word: &mut [u8])
     ensures { word.new ≡ placed_at (length word.old) leads.now message.now }
 {
     let mut taken = 0;
+    // By index, as in `roles`.
     for (j, entry) in word.iter_mut().enumerate() {
         if leads[j] == 1 {
             *entry = 0;
@@ -46,8 +48,8 @@ pub fn take_out(word: &[u8], leads: &[u8], message: &mut [u8])
     ensures { message.new ≡ chosen (length word.now) (free_at leads.now) (entry_of word.now) }
 {
     let mut taken = 0;
-    for (p, entry) in word.iter().enumerate() {
-        if leads[p] != 1 {
+    for (entry, lead) in word.iter().zip(leads) {
+        if *lead != 1 {
             message[taken] = *entry;
             taken += 1;
         }
@@ -75,6 +77,7 @@ fn complete(basis: &Basis, word: &mut [u8])
     requires { Form (length word.old) basis.now.rows basis.now.leads × Bits word.old }
     ensures { Completed (length word.old) basis.now.rows basis.now.leads word.old word.new }
 {
+    // By index: p is a place of the leads, of the rows and of the word, which is read at the others.
     for p in (0..word.len()).rev() {
         if basis.leads[p] == 1 {
             word[p] = forced(basis, word, p);

@@ -37,6 +37,7 @@ pub fn take_turns(repairs: u32, next: usize, marks: &mut [Mark]) -> usize
     let senders = marks.len();
     let mut left = repairs;
     let mut turn = next;
+    // By index: the turn goes on to the sender after the one tried.
     for sender in (next..senders).chain(0..next) {
         if marks[sender].is_other() {
             if left == 0 {

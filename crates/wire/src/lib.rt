@@ -1,22 +1,23 @@
 // Answers as numbers, since no enum crosses into C: the value, or minus the refusal's number.
 //
-// One function for each kind of answer: `()` has no number to convert, and the contracts of capi cite each by its name, so that a generic function is no
-// plainer.
+// An answer whose value converts to a number has one function for every kind. `()` converts to none, and a repair and a reading are no `Result`, so
+// that each of these has its own.
 #![tactic(auto)]
 
-ghost use Rattle.std.specs.Prelude.{◌≡◌};
-ghost use Rattle.wire.specs.Wire.{minus, element_code, outcome_code, sameness_code, counted_code, recovery_code, reading_code};
+ghost use Rattle.std.specs.Prelude.{◌≡◌, ℕ, Ok, Err};
+ghost use Rattle.wire.specs.Wire.{minus, outcome_code, recovery_code, reading_code};
 
-use field::Elem;
 use refusals::Refusal;
 use repair::Recovery;
 use rows::Reading;
 
-pub fn element_code(answer: Result<Elem, Refusal>) -> u32
-    ensures { result ≡ element_code answer }
+// `element_code`, `sameness_code` and `counted_code` of specs/Wire.antt are what this comes to for an element, a truth value and a count.
+pub fn value_code<V: Into<u32>>(answer: Result<V, Refusal>) -> u32
+    ensures value { (x : V) → answer ≡ Ok x → V.converts x result }
+    ensures refusal { (n : ℕ) → answer ≡ Err n → result ≡ minus n }
 {
     match answer {
-        Ok(a) => a as u32,
+        Ok(value) => value.into(),
         Err(refusal) => minus(refusal),
     }
 }
@@ -26,24 +27,6 @@ pub fn outcome_code(outcome: Result<(), Refusal>) -> u32
 {
     match outcome {
         Ok(()) => 0,
-        Err(refusal) => minus(refusal),
-    }
-}
-
-pub fn sameness_code(sameness: Result<bool, Refusal>) -> u32
-    ensures { result ≡ sameness_code sameness }
-{
-    match sameness {
-        Ok(same) => same as u32,
-        Err(refusal) => minus(refusal),
-    }
-}
-
-pub fn counted_code(counted: Result<u32, Refusal>) -> u32
-    ensures { result ≡ counted_code counted }
-{
-    match counted {
-        Ok(count) => count,
         Err(refusal) => minus(refusal),
     }
 }

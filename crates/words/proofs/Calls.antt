@@ -1,8 +1,7 @@
--- What calls on words share: columns at the front of a list, and a message that is refused.
-use Rattle.std.specs.Prelude.{◌≡◌, Bool, List, ℕ, ◌≤◌, length, take}
+-- What calls on words share: a message that is refused.
+use Rattle.std.specs.Prelude.{◌≡◌, Bool, List, ℕ}
 use Rattle.std.specs.Result.{IsErrAnd}
-use Rattle.std.proofs.Common.{sym, subst, arith}
-use Rattle.std.proofs.lemmas.List.{length-take}
+use Rattle.std.proofs.Common.{sym, subst}
 use Rattle.refusals.specs.Ending.{Ended, ended_refused}
 use Rattle.refusals.specs.Outcome.{Outcome, Refused, tested}
 use Rattle.refusals.specs.Rules.{fault}
@@ -12,10 +11,6 @@ use Rattle.parity.specs.Columns.{dimension}
 use Rattle.messages.specs.CodeBasis.{MessageColumns}
 use Rattle.messages.specs.MessageRules.{message_rules}
 use Rattle.messages.proofs.Meaning.{message_due}
-
--- a list whose front is so long is no shorter
-pub front_fits : {k : ℕ} (l : List ℕ) → k ≡ length (take k l) → k ≤ length l
-front_fits {k} l e = omega (arith, e, length-take k l)
 
 -- a call whose message is refused ends by the number that is due for the dimension, with its buffer as it was
 pub message_refused : {c : Parameters} {h cols leads : List ℕ} {k : ℕ} → MessageColumns c h cols leads k → {i : ℕ} (long : ℕ) (bits : Bool)

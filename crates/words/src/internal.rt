@@ -57,7 +57,7 @@ pub fn syndrome(code: &Code<'_>, word: &[u8], out: &mut [Elem]) -> Result<(), Re
     if !all_bits(word) {
         return Err(Refusal(Rule::Bit));
     }
-    syndromes::syndrome(code.c.m, code.h, code.cols, word, out);
+    syndromes::syndrome(code, word, out);
     Ok(())
 }
 

@@ -10,14 +10,12 @@ ghost use Rattle.std.specs.Prelude.{◌≡◌};
 ghost use Rattle.words.specs.Answers.{roles_answer, roles_after, syndrome_answer, syndrome_after};
 ghost use Rattle.words.specs.Answers.{encode_answer, encode_after, message_answer, message_after};
 
-use basis::Column;
-use columns::{Lengths, choose_columns, is_all_places};
+use columns::{Lengths, Room, choose_columns, is_all_places};
 use field::Elem;
 use params::Parameters;
 use parity::Code;
 use refusals::Refusal;
 use shortened::{Lent, Setting, begin};
-use slices::LONGEST;
 
 // 1 for each message column and 0 for each check column into `out`, hidden or sent, and k, the number of sent message columns.
 pub fn roles(c: Parameters, h: &[Elem], s: &Setting<'_>, out: &mut [u8]) -> Result<u32, Refusal>
@@ -28,13 +26,13 @@ pub fn roles(c: Parameters, h: &[Elem], s: &Setting<'_>, out: &mut [u8]) -> Resu
         others: true,
         places: is_all_places(c, s.choice, s.hidden.len()) & is_all_places(c, s.choice, out.len()),
     };
-    let mut inverses: [Elem; LONGEST] = [0; LONGEST];
-    let mut columns: [Column; LONGEST] = [0; LONGEST];
-    let n = choose_columns(c, h, s.choice, lent, &mut inverses, &mut columns)?;
+    let mut room = Room::new();
+    let n = choose_columns(c, h, s.choice, lent, &mut room)?;
     let code = Code {
         c,
         h,
-        cols: &columns[..n],
+        inverses: &room.inverses,
+        cols: &room.columns[..n],
     };
     internal::short_roles(&code, s.hidden, out)
 }
@@ -54,15 +52,11 @@ pub fn syndrome(
         others: out.len() == c.t as usize,
         words: word.len() == s.places(),
     };
-    let mut inverses: [Elem; LONGEST] = [0; LONGEST];
-    let mut columns: [Column; LONGEST] = [0; LONGEST];
-    let n = begin(c, h, s, lent, &mut inverses, &mut columns)?;
-    let code = Code {
-        c,
-        h,
-        cols: &columns[..n],
-    };
-    internal::syndrome(&code, word, out)
+    let mut room = Room::new();
+    match begin(c, h, s, lent, &mut room) {
+        Ok(code) => internal::syndrome(&code, word, out),
+        Err(refusal) => Err(refusal),
+    }
 }
 
 // The code word that carries the message.
@@ -80,15 +74,11 @@ pub fn encode(
         others: true,
         words: word.len() == s.places(),
     };
-    let mut inverses: [Elem; LONGEST] = [0; LONGEST];
-    let mut columns: [Column; LONGEST] = [0; LONGEST];
-    let n = begin(c, h, s, lent, &mut inverses, &mut columns)?;
-    let code = Code {
-        c,
-        h,
-        cols: &columns[..n],
-    };
-    internal::encode(&code, message, word)
+    let mut room = Room::new();
+    match begin(c, h, s, lent, &mut room) {
+        Ok(code) => internal::encode(&code, message, word),
+        Err(refusal) => Err(refusal),
+    }
 }
 
 // The word's entries at the message columns.
@@ -106,13 +96,9 @@ pub fn message(
         others: true,
         words: word.len() == s.places(),
     };
-    let mut inverses: [Elem; LONGEST] = [0; LONGEST];
-    let mut columns: [Column; LONGEST] = [0; LONGEST];
-    let n = begin(c, h, s, lent, &mut inverses, &mut columns)?;
-    let code = Code {
-        c,
-        h,
-        cols: &columns[..n],
-    };
-    internal::message(&code, word, message)
+    let mut room = Room::new();
+    match begin(c, h, s, lent, &mut room) {
+        Ok(code) => internal::message(&code, word, message),
+        Err(refusal) => Err(refusal),
+    }
 }

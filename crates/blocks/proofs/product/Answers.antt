@@ -15,7 +15,7 @@ returns-in_err-check_pair c =
     record { value = passed_on _ _ _ is c.from_residual.ensures.1; out_after = refuse (λ k. c.args.out.now) _ due ne }
 
 pub add_product-requires : goal.add_product-requires
-add_product-requires c = cleared c.clear.auto.out (pair_checked _ _ _ c.args.out.now c.in_ok-check_pair.ensures)
+add_product-requires c = cleared c.fill.auto.self (pair_checked _ _ _ c.args.out.now c.in_ok-check_pair.ensures)
 
 pub returns : goal.returns
 unfolding product_answer product_after
@@ -25,5 +25,5 @@ returns c =
     let f = pair_checked _ _ _ out is in
     record {
       value = went_on _ _ is;
-      out_after = into_cleared f c.clear.ensures c.add_product.ensures.out_after ∙ sym (given (λ k. out) _ (tested_none is));
+      out_after = into_cleared f (c.fill.ensures.after (λ y is. is)) c.add_product.ensures.out_after ∙ sym (given (λ k. out) _ (tested_none is));
     }

@@ -1,23 +1,13 @@
 -- `named_once` meets its contract: it marks each block that it meets, so a block that is marked already is named twice.
-use native.Mathlib.Omega.{arith}
 use Rattle.columns.proofs.Naming.{naming_start, naming_fails, naming_turn, naming_end}
 use Rattle.columns.proofs.named_once.Goals as goal
 
 pub loop-number-init : goal.loop-number-init
 loop-number-init c = naming_start c.args.blocks.now
 
-pub overflow_cast-block : goal.overflow_cast-block
-overflow_cast-block c = omega (arith, c.type_inv.blocks c.loop-number.number-index)
-
-pub bounds-named-block : goal.bounds-named-block
-bounds-named-block c = c.requires c.loop-number.number-index c.loop-number-test.true
-
 pub returns-then-named-block : goal.returns-then-named-block
 returns-then-named-block c =
     naming_fails c.loop-number.invariant c.requires c.loop-number-test.true c.if-named-block.true
-
-pub bounds-named-block-in-loop-number : goal.bounds-named-block-in-loop-number
-bounds-named-block-in-loop-number c = c.requires c.loop-number.number-index c.loop-number-test.true
 
 pub loop-number-preserved : goal.loop-number-preserved
 loop-number-preserved c =

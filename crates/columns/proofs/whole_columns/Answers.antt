@@ -5,7 +5,9 @@ use Rattle.refusals.specs.Answered.{counted_apart}
 use Rattle.refusals.specs.Testing.{tested_none, tested_due, handed_on}
 use Rattle.columns.specs.Choice.{Choice.whole_code}
 use Rattle.columns.specs.Listed.{Listed}
-use Rattle.columns.proofs.Beginning.{whole_refused, whole_listed, whole_short}
+use Rattle.parity.specs.Word.{whole}
+use Rattle.parity.specs.Selected.{length_whole}
+use Rattle.columns.proofs.Beginning.{written_front, whole_refused, whole_listed, whole_short}
 use Rattle.columns.proofs.whole_columns.Goals as goal
 
 pub returns-in_err-check_code : goal.returns-in_err-check_code
@@ -19,18 +21,21 @@ returns-in_err-check_code c =
       by_index = λ k e. absurd (counted_apart k _ (sym handed ∙ e));
     }
 
-pub number_columns-requires : goal.number_columns-requires
-number_columns-requires c =
+pub slice_bounds-number_columns-end : goal.slice_bounds-number_columns-end
+slice_bounds-number_columns-end c =
     let a = c.args in
     let none = tested_none c.in_ok-check_code.ensures.value in
-    let short = whole_short a.c a.h.now a.lent.others a.lent.places a.columns.now (sym none) (omega arith) in
+    let short = whole_short a.c a.h.now a.lent.others a.lent.places a.room.now.columns (sym none) (omega arith) in
     omega arith
 
 pub returns : goal.returns
 returns c =
     let a = c.args in
     let record { value = value; inverted = inverted } = c.in_ok-check_code.ensures in
+    let none = sym (tested_none value) in
+    let short = whole_short a.c a.h.now a.lent.others a.lent.places a.room.now.columns none (omega arith) in
+    let numbered = written_front whole a.room.now.columns (length_whole a.c.n) (omega arith) c.number_columns.ensures in
     record {
-      listed = whole_listed a.c a.h.now a.lent.others a.lent.places _ (sym (tested_none value)) (omega arith) c.number_columns.ensures;
+      listed = whole_listed a.c a.h.now a.lent.others a.lent.places _ none (omega arith) numbered;
       by_index = λ k e. inverted refl;
     }

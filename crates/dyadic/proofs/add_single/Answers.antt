@@ -1,6 +1,5 @@
 -- `add_single` meets its contract: the product of two blocks of length one is the product of their elements.
 use mathlib.Core.Path.{refl, sym, ◌∙◌}
-use native.Mathlib.Omega.{arith}
 use Rattle.algebra.specs.Xor.{◌⊕◌}
 use Rattle.dyadic.proofs.Adding.{single}
 use Rattle.dyadic.proofs.add_single.Goals as goal

@@ -1,21 +1,11 @@
 -- `choice_sum` meets its contract. The loop's invariant: `sum` is the sum of the values taken at the places passed.
 use Rattle.algebra.specs.Bits.{bit_at}
-use Rattle.algebra.specs.BitLaws.{bit_times_lt, bit_at_lt}
 use Rattle.algebra.specs.Xor.{◌⊕◌}
-use Rattle.field.specs.Words.{widest}
 use Rattle.essence.proofs.Choosing.{choosing_start, choosing_turn, choosing_end}
 use Rattle.essence.proofs.choice_sum.Goals as goal
 
 pub loop-s-init : goal.loop-s-init
 loop-s-init c = choosing_start c.args.values.now c.args.choice
-
-pub overflow_mul-sum : goal.overflow_mul-sum
-unfolding bit_at
-overflow_mul-sum c =
-    let l = c.loop-s in
-    record {
-      fits = bit_times_lt widest _ _ (bit_at_lt c.args.choice l.s) (c.type_inv.values l.s).fits;
-    }
 
 pub loop-s-preserved : goal.loop-s-preserved
 unfolding ◌⊕◌ bit_at

@@ -3,7 +3,6 @@ use mathlib.Core.Path.{ap}
 use Prim.Native.Nat.{ℕ, ◌-◌, ◌<◌}
 use native.Mathlib.Omega.{arith}
 use lib.ListN.{length, length-append, length-drop}
-use lib.Pow.{pow_pos}
 use lib.Seq.{length-take-le}
 use Rattle.algebra.specs.Filling.{filling_start, filling_turn, filling_end}
 use Rattle.algebra.specs.Lists.{entry_of}
@@ -11,11 +10,6 @@ use Rattle.algebra.specs.Xor.{◌⊕◌}
 use Rattle.essence.proofs.ShapeLaws.{value_count_is}
 use Rattle.essence.proofs.Storing.{reached, stored}
 use Rattle.essence.proofs.store_essence.Goals as goal
-
-pub bounds-inverses-0 : goal.bounds-inverses-0
-bounds-inverses-0 c =
-    let pre = c.requires in
-    omega (arith, pow_pos (length c.args.out.now - 1), pre.1)
 
 pub overflow_sub-e : goal.overflow_sub-e
 overflow_sub-e c = omega (arith, (value_count_is _ c.requires.0).0)

@@ -12,5 +12,5 @@ returns-in_default c = nothing_read c.sum.ensures c.in_default.is
 pub returns : goal.returns
 returns c =
     let g = c.args in
-    worked {β = lent g.blocks.now} c.sum.ensures c.in-Some.is
+    worked {β = lent g.letters.now.blocks} c.sum.ensures c.in-Some.is
     c.if-text-gt-LONGEST_TEXT.false c.check_end.ensures

@@ -11,7 +11,7 @@ use Rattle.lines.proofs.put_columns.Goals as goal
 pub loop-j-init : goal.loop-j-init
 loop-j-init c =
     let a = c.args in
-    (refl, omega arith, joining_start (column_line a.h.now a.support.now a.roles.now) (length a.h.now) a.at a.out.now)
+    (refl, omega arith, joining_start (column_line a.columns.now.h.now a.columns.now.support.now a.columns.now.roles.now) (length a.columns.now.h.now) a.at a.out.now)
 
 pub loop-j-preserved : goal.loop-j-preserved
 loop-j-preserved c =
@@ -21,5 +21,5 @@ loop-j-preserved c =
       refl,
       omega (arith, call.ensures.value),
       joining_turn l.invariant.2 (omega arith)
-          (l.invariant.1 ∙ ap (λ (k : ℕ). a.at + k) (sym (length_columns a.h.now a.support.now a.roles.now l.j))) call.ensures.out_after,
+          (l.invariant.1 ∙ ap (λ (k : ℕ). a.at + k) (sym (length_columns a.columns.now.h.now a.columns.now.support.now a.columns.now.roles.now l.j))) call.ensures.out_after,
     )

@@ -9,4 +9,5 @@ use Rattle.lines.proofs.put_columns.Given as goal
 
 abbrev pub invariant-loop-j : goal.invariant-loop-j
 invariant-loop-j l =
-    (l.j-end ≡ length l.h) × (l.next ≡ l.at + l.j * line_length 4) × Joining (column_line l.h l.support l.roles) (length l.h) l.at l.initial.out l.out l.j
+    (l.j-end ≡ length l.columns.h.now) × (l.next ≡ l.at + l.j * line_length 4)
+    × Joining (column_line l.columns.h.now l.columns.support.now l.columns.roles.now) (length l.columns.h.now) l.at l.initial.out l.out l.j

@@ -8,5 +8,5 @@ unfolding code_line
 returns c =
     let a = c.args in
     let line = c.put_line-next.ensures in
-    lines_written a.c a.k a.h.now a.support.now a.roles.now a.out.now
-    c.requires.0.h_long c.requires.2 line.out_after line.value c.put_columns.ensures
+    lines_written a.c a.k a.columns.now.h.now a.columns.now.support.now a.columns.now.roles.now a.out.now
+    c.requires.0 c.requires.2 line.out_after line.value c.put_columns.ensures

@@ -1,5 +1,4 @@
 -- `listing` meets its contract: the sheet's refusal stands, and where there is none the listing is stored.
-use mathlib.Core.Path.{refl}
 use Rattle.refusals.specs.Ending.{first_refuses, second_decides}
 use Rattle.refusals.specs.Counted.{Refused}
 use Rattle.refusals.specs.Testing.{tested_none, tested_due, first_passed_on}
@@ -21,9 +20,6 @@ returns-in_err-check_sheet c =
       value = first_passed_on rules room _ _ tested c.from_residual.ensures.1;
       out_after = first_refuses rules room (λ k. a.out.now) _ due ne;
     }
-
-pub sheet_listing-requires : goal.sheet_listing-requires
-sheet_listing-requires c = c.in_ok-check_sheet.ensures.sheet_read refl
 
 pub returns : goal.returns
 unfolding listing_answer listing_after listing_fault sheet_fault stored_answer stored_after

@@ -20,9 +20,6 @@ returns-in-Err c =
       out_after = stored.out_after ∙ ap (λ (l : List ℕ). stored_after l a.out.now) line;
     }
 
-pub sheet_listing-requires : goal.sheet_listing-requires
-sheet_listing-requires c = c.check_sheet.ensures.sheet_read c.in_default.is
-
 pub returns : goal.returns
 unfolding printed_answer printed_after printed_text
 returns c =

@@ -4,7 +4,6 @@ use mathlib.Core.List.{List}
 use Prim.Native.Nat.{ℕ, ◌≤◌, ◌<◌}
 use native.Mathlib.Omega.{arith}
 use lib.ListN.{length}
-use lib.Seq.{length-take-le}
 use Rattle.fields.specs.Over.{over}
 use Rattle.sheets.specs.Laws.{sheet_is}
 use Rattle.sheets.specs.Reading.{sheet_long}
@@ -27,12 +26,6 @@ returns-then-out-length c =
     let short : length a.out.now < length (sheet_listing text) = omega (arith, long) in
     let ended = stored_short (sheet_listing text) a.out.now short in
     record { value = ended.0; out_after = ended.1 }
-
-pub slice_bounds-write_listing-end : goal.slice_bounds-write_listing-end
-slice_bounds-write_listing-end c =
-    let p = c.parameters_of-c in
-    let fits : p.result.n ≤ length c.args.h.now = omega (arith, c.requires.fits, n_is c.args.text.now p.ensures) in
-    sym (length-take-le p.result.n c.args.h.now fits)
 
 pub write_listing-requires : goal.write_listing-requires
 write_listing-requires c =

@@ -18,7 +18,7 @@ use Rattle.nearest.proofs.turn_roots.Goals as goal
 pub loop-j-init : goal.loop-j-init
 loop-j-init c =
     let a = c.args in
-    turning_start (length a.cols.now) (root_place a.m a.polynomial.now a.support.now a.cols.now) a.received.now a.word.now c.requires.received_len.1
+    turning_start (length a.cols.now) (root_place a.polynomial.now a.support.now a.cols.now) a.received.now a.word.now c.requires.received_len.1
 
 pub loop-j-preserved : goal.loop-j-preserved
 unfolding root_place ◌⊕◌
@@ -33,7 +33,7 @@ returns c =
     let a = c.args in
     let T = c.loop-j.invariant in
     let ended : c.loop-j.j ≡ length a.cols.now = omega (arith, T.filling.bound) in
-    let p = root_place a.m a.polynomial.now a.support.now a.cols.now in
+    let p = root_place a.polynomial.now a.support.now a.cols.now in
     record {
       value = T.counted ∙ ap (λ (k : ℕ). count k p) ended;
       word_after = filling_end T.filling (omega arith);

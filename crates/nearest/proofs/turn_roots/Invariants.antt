@@ -5,4 +5,4 @@ use Rattle.nearest.proofs.Decoding.{Turning}
 use Rattle.nearest.proofs.turn_roots.Given as goal
 
 abbrev pub invariant-loop-j : goal.invariant-loop-j
-invariant-loop-j l = Turning (length l.cols) (root_place l.m l.polynomial l.support l.cols) l.received l.initial.word l.word l.turned l.j
+invariant-loop-j l = Turning (length l.cols) (root_place l.polynomial l.support l.cols) l.received l.initial.word l.word l.turned l.j

@@ -4,34 +4,19 @@ use Prim.Native.Nat.{ℕ}
 use borrow.Author.Tests.{eqb-true}
 use Rattle.algebra.specs.Flags.{both_true}
 use Rattle.refusals.specs.Rules.{Rule}
+use Rattle.params.specs.declared.Parameters.{Parameters}
 use Rattle.shortened.specs.Begun.{both_long}
-use Rattle.shortened.proofs.BegunLaws.{begun_refuses, begun_places, begun_accepted, begun_columns, begun_long, begun_fits, begun_passes, begun_sent}
+use Rattle.shortened.proofs.BegunLaws.{begun_refuses, begun_accepted, begun_long, begun_passes, begun_sent}
 use Rattle.nearest.specs.Repair.{repaired_of}
-use Rattle.parity.proofs.OfCode.{accepted_code}
 use Rattle.rows.specs.declared.Reading.TheVariants.{Refused}
 use Rattle.rows.specs.Answers.{read_rules, row_read, reading_answer, reading_after, read_fault, read_answer, read_after}
 use Rattle.rows.proofs.read_row.Goals as goal
-
-pub slice_bounds-columns-end : goal.slice_bounds-columns-end
-slice_bounds-columns-end c = begun_fits c.begin.ensures.begun c.in-Ok.is
-
-pub slice_bounds-code-end : goal.slice_bounds-code-end
-slice_bounds-code-end c =
-    let begun = c.begin.ensures.begun in
-    begun_long begun c.in-Ok.is (begun_places begun c.in-Ok.is)
-
-pub invariant_of-code : goal.invariant_of-code
-invariant_of-code c =
-    let O = begun_columns c.begin.ensures.begun c.in-Ok.is in record { accepted = accepted_code O.accepted; selected = O.selected }
-
-pub invariant_of-decoder : goal.invariant_of-decoder
-invariant_of-decoder c = record { inverted = c.begin.ensures.by_index _ c.in-Ok.is }
 
 pub read-requires : goal.read-requires
 read-requires c =
     let a = c.args in
     let e = c.in-Ok.is in
-    let begun = begun_sent (both_long a.received.now a.repaired.now) c.begin.ensures.begun c.places-sent.ensures in
+    let begun = begun_sent (both_long a.received.now a.repaired.now) c.begin.ensures c.places-sent.ensures in
     let (received, repaired) = both_true _ _ (begun_accepted begun e).1 in
     (begun_long begun e (eqb-true _ _ received), begun_long begun e (eqb-true _ _ repaired))
 
@@ -40,7 +25,7 @@ unfolding read_answer read_after read_fault
 returns-in-Err c =
     let a = c.args in
     let e = c.in-Err.is in
-    let begun = begun_sent (both_long a.received.now a.repaired.now) c.begin.ensures.begun c.places-sent.ensures in
+    let begun = begun_sent (both_long a.received.now a.repaired.now) c.begin.ensures c.places-sent.ensures in
     record { value = begun_refuses begun e _ Refused _; repaired_after = begun_refuses begun e _ (λ k. a.repaired.now) _ }
 
 pub returns-in-Ok : goal.returns-in-Ok
@@ -48,10 +33,10 @@ unfolding read_answer read_after read_fault reading_answer reading_after
 returns-in-Ok c =
     let a = c.args in
     let e = c.in-Ok.is in
-    let begun = begun_sent (both_long a.received.now a.repaired.now) c.begin.ensures.begun c.places-sent.ensures in
-    let more : List ℕ → List Rule = λ cols. read_rules a.c a.h.now cols a.received.now in
+    let begun = begun_sent (both_long a.received.now a.repaired.now) c.begin.ensures c.places-sent.ensures in
+    let more : Parameters → List ℕ → List ℕ → List Rule = λ c h cols. read_rules c h cols a.received.now in
     let record { value = answer; repaired_after = buffer } = c.read.ensures in
     record {
-      value = begun_passes begun e more Refused (λ cols. row_read a.c a.h.now cols a.received.now) answer;
-      repaired_after = begun_passes begun e more (λ k. a.repaired.now) (λ cols. repaired_of a.c a.h.now cols a.received.now) buffer;
+      value = begun_passes begun e more Refused (λ c h cols. row_read c h cols a.received.now) answer;
+      repaired_after = begun_passes begun e more (λ k. a.repaired.now) (λ c h cols. repaired_of c h cols a.received.now) buffer;
     }

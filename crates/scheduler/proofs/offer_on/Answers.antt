@@ -1,7 +1,7 @@
 -- `offer_on` meets its contract: 18, 19, 8, or the word in the sender's part, which then waits.
 use native.Mathlib.Omega.{arith}
 use lib.ListN.{length}
-use Rattle.algebra.specs.PartLaws.{length_lent, part_returned}
+use Rattle.algebra.specs.PartLaws.{part_returned}
 use Rattle.scheduler.proofs.Beginning.{offer_refused, offer_done, offer_marked, offer_inside}
 use Rattle.scheduler.proofs.offer_on.Goals as goal
 
@@ -21,12 +21,6 @@ overflow_add-end c =
 pub slice_bounds-copy_from_slice-end : goal.slice_bounds-copy_from_slice-end
 slice_bounds-copy_from_slice-end c =
     offer_inside c.requires c.args.sender c.in_ok-check_offer.ensures
-
-pub copy_from_slice-requires : goal.copy_from_slice-requires
-copy_from_slice-requires c =
-    let a = c.args in
-    length_lent (length a.word.now) a.words.now a.sender
-    (offer_inside c.requires a.sender c.in_ok-check_offer.ensures)
 
 pub bounds-waiting-sender : goal.bounds-waiting-sender
 bounds-waiting-sender c =

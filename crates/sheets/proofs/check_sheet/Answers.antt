@@ -22,10 +22,6 @@ returns-then-not-is_sheet c =
       sheet_read = λ z. absurd (done_apart 13 z);
     }
 
-pub read_signature-requires : goal.read_signature-requires
-read_signature-requires c =
-    (found_true c.is_sheet.ensures c.if-not-is_sheet.false, c.requires.0)
-
 pub parameters_of-c-requires : goal.parameters_of-c-requires
 parameters_of-c-requires c =
     omega (arith, sheet_long c.args.text.now (found_true c.is_sheet.ensures c.if-not-is_sheet.false))

@@ -32,9 +32,6 @@ returns-then-text-n c =
     let text = c.args.text.now in
     sym (refuted (is_sheet text) (λ s. omega (arith, sheet_long text s, c.value_at-n.ensures)))
 
-pub is_line-requires-2 : goal.is_line-requires-2
-is_line-requires-2 c = omega arith
-
 pub returns : goal.returns
 unfolding is_sheet
 returns c =

@@ -1,39 +1,60 @@
--- `begin` meets its contract: it numbers the columns of all places, and shortens them.
-use mathlib.Core.Path.{refl, sym, subst}
+-- `begin` meets its contract: it numbers the columns of all places, and keeps those of the sent ones.
+use mathlib.Core.Path.{refl}
 use native.Mathlib.Omega.{arith}
 use Rattle.refusals.specs.Testing.{handed_on}
-use Rattle.columns.specs.Lent.{choice_of}
 use Rattle.columns.proofs.ListedLaws.{listed_as}
-use Rattle.shortened.specs.Begun.{Begun}
-use Rattle.shortened.specs.Setting.{Setting, shortened}
-use Rattle.shortened.proofs.Shortening.{shorten_refused, shorten_columns, shorten_begun, marks_short}
+use Rattle.parity.proofs.OfCode.{accepted_code}
+use Rattle.shortened.proofs.Shortening.{columns_refused, marks_columns, marks_short, marks_refused, marks_pass, marks_count, sent_numbered}
+use Rattle.shortened.proofs.Shortening.{sent_on_columns}
+use Rattle.shortened.specs.MarkLaws.{sent_le}
+use Rattle.shortened.proofs.Beginning.{begun_refused, begun_passed}
 use Rattle.shortened.proofs.begin.Goals as goal
 
-pub returns-in_err-choose_columns-clause-begun : goal.returns-in_err-choose_columns-clause-begun
-returns-in_err-choose_columns-clause-begun c =
+pub sent_columns-requires-clause-on_columns : goal.sent_columns-requires-clause-on_columns
+sent_columns-requires-clause-on_columns c =
+    let hidden = c.s.inside.hidden.now in
+    let L = listed_as c.in_ok-choose_columns.ensures.listed c.is_all_places.ensures in
+    (marks_columns hidden L c.args.lent.words refl, omega (arith, marks_short hidden L c.args.lent.words refl))
+
+pub returns-in_err-choose_columns : goal.returns-in_err-choose_columns
+returns-in_err-choose_columns c =
     let a = c.args in
     let s = c.s.inside in
     let L = listed_as c.in_err-choose_columns.ensures.listed c.is_all_places.ensures in
-    let B = shorten_refused s.hidden.now L a.lent.words refl c.choose_columns.new.columns in
-    subst (λ (s : Setting). Begun a.c a.h.now s a.lent.others a.lent.words c.choose_columns.new.columns c.from_residual.result) c.s.view_is
-    (subst (Begun a.c a.h.now (shortened (choice_of s.choice) s.hidden.now) a.lent.others a.lent.words c.choose_columns.new.columns)
-    (sym (handed_on _ c.from_residual.ensures.1)) B)
+    let handed = handed_on _ c.from_residual.ensures.1 in
+    begun_refused c.s.view_is (columns_refused s.hidden.now L a.lent.words refl) handed
 
-pub sent_columns-requires : goal.sent_columns-requires
-sent_columns-requires c =
+pub returns-in_err-sent : goal.returns-in_err-sent
+returns-in_err-sent c =
+    let a = c.args in
+    let s = c.s.inside in
+    let L = listed_as c.in_ok-choose_columns.ensures.listed c.is_all_places.ensures in
+    let handed = handed_on _ c.from_residual-in_err-sent.ensures.1 in
+    begun_refused c.s.view_is (marks_refused s.hidden.now L a.lent.words refl c.in_err-sent.ensures.value refl) handed
+
+pub shared_ref_as_front-result : goal.shared_ref_as_front-result
+shared_ref_as_front-result c =
+    let a = c.args in
     let hidden = c.s.inside.hidden.now in
     let L = listed_as c.in_ok-choose_columns.ensures.listed c.is_all_places.ensures in
-    (shorten_columns hidden L refl, omega (arith, marks_short hidden L refl, c.requires.1))
+    let counted = marks_count hidden L a.lent.words refl c.in_ok-sent.ensures.value refl in
+    omega (arith, counted, sent_le hidden, marks_short hidden L a.lent.words refl)
+
+pub invariant_of-result : goal.invariant_of-result
+invariant_of-result c =
+    let a = c.args in
+    let hidden = c.s.inside.hidden.now in
+    let L = listed_as c.in_ok-choose_columns.ensures.listed c.is_all_places.ensures in
+    let record { value = answer; columns_after = kept } = c.in_ok-sent.ensures in
+    let O = sent_on_columns hidden L a.lent.words refl answer refl c.sent_columns.new.columns kept in
+    record { accepted = accepted_code O.accepted; inverted = c.in_ok-choose_columns.ensures.by_index _ refl; selected = O.selected }
 
 pub returns : goal.returns
 returns c =
     let a = c.args in
-    let hidden = c.s.inside.hidden.now in
-    let record { listed = found; by_index = inverted } = c.in_ok-choose_columns.ensures in
-    let L = listed_as found c.is_all_places.ensures in
-    let record { value = answer; columns_after = numbered } = c.sent_columns.ensures in
-    record {
-      begun = subst (λ (s : Setting). Begun a.c a.h.now s a.lent.others a.lent.words c.sent_columns.new.columns c.sent_columns.result) c.s.view_is
-          (shorten_begun hidden L refl a.lent.words answer numbered);
-      by_index = λ k e. inverted _ refl;
-    }
+    let s = c.s.inside in
+    let L = listed_as c.in_ok-choose_columns.ensures.listed c.is_all_places.ensures in
+    let record { value = answer; columns_after = kept } = c.in_ok-sent.ensures in
+    let none = marks_pass s.hidden.now L a.lent.words refl answer refl in
+    let numbered = sent_numbered s.hidden.now L a.lent.words refl answer refl c.sent_columns.new.columns kept in
+    begun_passed c.s.view_is none (record { parameters = refl; signature = refl; columns = numbered }) refl

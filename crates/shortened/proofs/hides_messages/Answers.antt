@@ -1,8 +1,5 @@
 -- `hides_messages` meets its contract: where nothing is hidden there is nothing to test, and else the free places are the message columns.
 use mathlib.Core.Path.{sym, ◌∙◌}
-use native.Mathlib.Omega.{arith}
-use Rattle.parity.proofs.OfCode.{on_columns}
-use Rattle.parity.specs.Selected.{columns_short}
 use Rattle.shortened.proofs.Marking.{nothing_hidden, hides_by_leads}
 use Rattle.shortened.proofs.hides_messages.Goals as goal
 
@@ -10,10 +7,6 @@ pub returns-then-sent_places-hidden : goal.returns-then-sent_places-hidden
 returns-then-sent_places-hidden c =
     let a = c.args in
     nothing_hidden a.code.now.c a.code.now.h.now a.code.now.cols.now a.hidden.now (sym c.sent_places.ensures ∙ c.if-sent_places-hidden.true)
-
-pub hides_free-requires : goal.hides_free-requires
-hides_free-requires c =
-    omega (arith, columns_short (on_columns c.args.code.now), c.requires)
 
 pub returns : goal.returns
 returns c =

@@ -6,7 +6,7 @@ use native.Mathlib.Nat.{le_refl}
 use native.Mathlib.Omega.{arith}
 use lib.ListN.{length, set}
 use borrow.Author.Tests.{eq-eqb, ne_eqb}
-use Rattle.algebra.specs.Choosing.{choosing_start, choosing_length, choosing_index, choosing_passed_over, choosing_taken}
+use Rattle.algebra.specs.Choosing.{choosing_start, choosing_index, choosing_passed_over, choosing_taken}
 use Rattle.algebra.specs.Choosing.{choosing_old, choosing_end}
 use Rattle.algebra.specs.Lists.{entry_of}
 use Rattle.algebra.specs.Places.{count}
@@ -23,10 +23,6 @@ loop-j-init c =
       c.requires,
       choosing_start (is_sent hidden) (entry_of c.args.columns.now) (length hidden) c.args.columns.now (omega (arith, c.requires, few)),
     )
-
-pub bounds-columns-j : goal.bounds-columns-j
-bounds-columns-j c =
-    let l = c.loop-j in omega (arith, choosing_length l.invariant.2, l.invariant.1)
 
 pub offset_bounds-columns-kept : goal.offset_bounds-columns-kept
 offset_bounds-columns-kept c =
@@ -50,9 +46,6 @@ loop-j-preserved c =
       l.invariant.1,
       elim c.if-hide-eq0.branch [ then-hide-eq0 w ↦ choosing_taken C (omega arith) (eq-eqb _ _ w.if-hide-eq0.true) (w.columns-is ∙ ap (λ (x : ℕ). set l.columns l.kept x) old) w.kept-is | else-hide-eq0 w ↦ choosing_passed_over C (omega arith) (ne_eqb _ _ w.if-hide-eq0.false) w.columns-is w.kept-is ],
     )
-
-pub shape_of-columns : goal.shape_of-columns
-shape_of-columns c = choosing_length c.loop-j.invariant.2
 
 pub returns : goal.returns
 unfolding sent_count sent_of

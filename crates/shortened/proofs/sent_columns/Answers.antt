@@ -27,11 +27,7 @@ front hidden columns = sent_cong hidden columns (take (length hidden) columns) (
 
 pub invariant_of-code : goal.invariant_of-code
 invariant_of-code c =
-    let O = c.requires.0 in record { accepted = accepted_code O.accepted; selected = O.selected }
-
-pub check_marks-requires : goal.check_marks-requires
-check_marks-requires c =
-    sym (length-take-le (length c.args.hidden.now) c.args.columns.now c.requires.1)
+    let O = c.requires.on_columns.0 in record { accepted = accepted_code O.accepted; inverted = c.requires.inverted; selected = O.selected }
 
 pub returns-in_err-check_marks : goal.returns-in_err-check_marks
 returns-in_err-check_marks c =

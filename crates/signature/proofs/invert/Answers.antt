@@ -1,14 +1,14 @@
 -- `invert` meets its contract. The loop's invariant: the places from i on hold inverses, and `rest` is that of the product before i.
 use mathlib.Core.Path.{ap, ◌∙◌}
 use mathlib.Core.List.{List}
-use Prim.Native.Nat.{ℕ, ◌-◌, ◌≤◌}
+use Prim.Native.Nat.{ℕ, ◌≤◌}
 use native.Mathlib.Omega.{arith}
 use lib.ListN.{length}
 use Rattle.algebra.specs.Filling.{get_or_stored}
 use Rattle.field.specs.Gf.{gf}
 use Rattle.signature.specs.Inverses.{before}
 use Rattle.algebra.specs.Lists.{entry_of}
-use Rattle.signature.proofs.Inverting.{inverting_start, inverting_index, entry_in, inverting_turn, inverting_end, units}
+use Rattle.signature.proofs.Inverting.{inverting_start, entry_in, inverting_turn, units}
 use Rattle.signature.proofs.invert.Goals as goal
 
 pub loop-i-init : goal.loop-i-init

@@ -5,7 +5,7 @@ use native.Mathlib.Omega.{arith}
 use lib.ListN.{length}
 use Rattle.algebra.specs.Filling.{filled}
 use Rattle.signature.specs.Inverses.{before}
-use Rattle.signature.proofs.Inverting.{before_in, multiplying_start, multiplying_length, multiplying_turn}
+use Rattle.signature.proofs.Inverting.{before_in, multiplying_start, multiplying_turn}
 use Rattle.signature.proofs.multiply.Goals as goal
 
 pub loop-i-init : goal.loop-i-init

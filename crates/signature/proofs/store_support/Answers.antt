@@ -4,4 +4,4 @@ use Rattle.signature.proofs.store_support.Goals as goal
 
 pub returns : goal.returns
 unfolding ◌⊕◌
-returns c = c.add_each.ensures
+returns c = c.store_roots.ensures

@@ -6,5 +6,6 @@ use Rattle.algebra.specs.Lists.{entry_of}
 use Rattle.basis.specs.Table.{free_at}
 use Rattle.systematic.proofs.take_out.Given as goal
 
-abbrev pub invariant-loop-p : goal.invariant-loop-p
-invariant-loop-p l = Choosing (free_at l.leads) (entry_of l.word) (length l.word) l.initial.message l.message l.taken l.p
+abbrev pub invariant-loop-entry : goal.invariant-loop-entry
+invariant-loop-entry l =
+    Choosing (free_at l.leads) (entry_of l.word) (length l.word) l.initial.message l.message l.taken (length l.yielded)

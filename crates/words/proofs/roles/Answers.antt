@@ -9,12 +9,11 @@ use Rattle.refusals.specs.Counted.{Count, Refused}
 use Rattle.refusals.specs.Rules.{Rule}
 use Rattle.refusals.specs.Testing.{handed_on}
 use Rattle.parity.specs.Columns.{roles_of}
-use Rattle.columns.proofs.ListedLaws.{listed_as, listed_refuses, listed_places, listed_accepted, listed_columns, listed_long, listed_passes}
+use Rattle.columns.proofs.ListedLaws.{listed_as, listed_refuses, listed_few, listed_accepted, listed_columns, listed_long, listed_passes}
 use Rattle.shortened.specs.Marks.{sent_dimension, mark_rules}
 use Rattle.shortened.specs.Setting.{Setting}
 use Rattle.parity.proofs.OfCode.{accepted_code}
 use Rattle.words.specs.Answers.{roles_rules, roles_fault, roles_answer, roles_after}
-use Rattle.words.proofs.Calls.{front_fits}
 use Rattle.words.proofs.roles.Goals as goal
 
 pub returns-in_err-n : goal.returns-in_err-n
@@ -30,19 +29,12 @@ returns-in_err-n c =
       out_after = subst (λ (s : Setting). a.out.now ≡ roles_after a.c a.h.now s a.out.now) c.s.view_is after;
     }
 
-pub slice_bounds-columns-end : goal.slice_bounds-columns-end
-slice_bounds-columns-end c =
-    let listed = c.in_ok-n.ensures.listed in
-    front_fits _ (listed_long listed refl (listed_places listed refl))
-
-pub slice_bounds-code-end : goal.slice_bounds-code-end
-slice_bounds-code-end c =
-    let listed = c.in_ok-n.ensures.listed in
-    listed_long listed refl (listed_places listed refl)
+pub shared_ref_as_front-code : goal.shared_ref_as_front-code
+shared_ref_as_front-code c = listed_few c.in_ok-n.ensures.listed refl
 
 pub invariant_of-code : goal.invariant_of-code
 invariant_of-code c =
-    let O = listed_columns c.in_ok-n.ensures.listed refl in record { accepted = accepted_code O.accepted; selected = O.selected }
+    let O = listed_columns c.in_ok-n.ensures.listed refl in record { accepted = accepted_code O.accepted; inverted = c.in_ok-n.ensures.by_index _ refl; selected = O.selected }
 
 pub short_roles-requires : goal.short_roles-requires
 short_roles-requires c =

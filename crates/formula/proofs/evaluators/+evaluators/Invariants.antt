@@ -31,14 +31,14 @@ decreases-sum-loop-value l = length l.text - l.cursor.at
 abbrev pub invariant-sum-loop-value : goal.invariant-sum-loop-value
 invariant-sum-loop-value l =
     (length l.value ≡ length l.initial.value) × Ends products (get_or l.text l.cursor.at 0)
-    × ((start : Cursor) → Held sums l.m (lent l.blocks) l.brackets l.text start l.initial.cursor l.initial.value
-    → Held sums l.m (lent l.blocks) l.brackets l.text start l.cursor l.value)
+    × ((start : Cursor) → Held sums l.letters.m (lent l.letters.blocks) l.brackets l.text start l.initial.cursor l.initial.value
+    → Held sums l.letters.m (lent l.letters.blocks) l.brackets l.text start l.cursor l.value)
 
 abbrev pub decreases-product-loop-value : goal.decreases-product-loop-value
 decreases-product-loop-value l = length l.text - l.cursor.at
 
 abbrev pub invariant-product-loop-value : goal.invariant-product-loop-value
 invariant-product-loop-value l =
-    (length l.value ≡ length l.initial.value) × Elements l.m l.value × Ends terms (get_or l.text l.cursor.at 0)
-    × ((start : Cursor) → Held products l.m (lent l.blocks) l.brackets l.text start l.initial.cursor l.initial.value
-    → Held products l.m (lent l.blocks) l.brackets l.text start l.cursor l.value)
+    (length l.value ≡ length l.initial.value) × Elements l.letters.m l.value × Ends terms (get_or l.text l.cursor.at 0)
+    × ((start : Cursor) → Held products l.letters.m (lent l.letters.blocks) l.brackets l.text start l.initial.cursor l.initial.value
+    → Held products l.letters.m (lent l.letters.blocks) l.brackets l.text start l.cursor l.value)

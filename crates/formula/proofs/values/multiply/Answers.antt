@@ -2,8 +2,7 @@
 use mathlib.Core.Path.{◌≡◌, ap, ◌∙◌}
 use mathlib.Core.List.{List}
 use Prim.Native.Nat.{ℕ}
-use lib.ListN.{length, take}
-use Rattle.algebra.specs.Tabulate.{tabulate}
+use lib.ListN.{length, take, replicate}
 use Rattle.field.specs.Gf.{gf}
 use Rattle.dyadic.specs.Block.{block_sum, block_product}
 use Rattle.dyadic.specs.Callers.{Factors}
@@ -12,7 +11,7 @@ use Rattle.slices.proofs.Room.{zeros, lent_front, filled}
 use Rattle.formula.proofs.values.multiply.Goals as goal
 
 -- the copy's product, added to the cleared buffer
-copied_product : {m : ℕ} {a b copy zeros written : List ℕ} → Factors m a b a → copy ≡ a → zeros ≡ tabulate (length a) (λ (i : ℕ). 0)
+copied_product : {m : ℕ} {a b copy zeros written : List ℕ} → Factors m a b a → copy ≡ a → zeros ≡ replicate (length a) 0
     → written ≡ block_sum (gf m) zeros (block_product (gf m) copy b) → written ≡ block_product (gf m) a b
 copied_product {m} {a} {b} {copy} {zeros} f e z w = into_cleared f z (w ∙ ap (λ (x : List ℕ). block_sum (gf m) zeros (block_product (gf m) x b)) e)
 
@@ -22,4 +21,4 @@ aside f kept copied = (filled f.short kept).front ∙ copied
 
 pub returns-clause-value_after : goal.returns-clause-value_after
 returns-clause-value_after c =
-    copied_product c.requires (aside c.requires c.copy_from_slice.auto.self c.copy_from_slice.ensures.after) c.clear.ensures c.add_by_halves.ensures.out_after
+    copied_product c.requires (aside c.requires c.copy_from_slice.auto.self c.copy_from_slice.ensures.after) (c.fill.ensures.after (λ y is. is)) c.add_by_halves.ensures.out_after

@@ -11,7 +11,7 @@ use Rattle.repair.proofs.decoder.decode.Goals as goal
 
 pub returns-then-not-all_bits : goal.returns-then-not-all_bits
 returns-then-not-all_bits c =
-    no_word (on_columns c.args.decoder.now.code) c.args.received.now c.args.word.now (found_false c.all_bits.ensures c.if-not-all_bits.true)
+    no_word (on_columns c.args.code.now) c.args.received.now c.args.word.now (found_false c.all_bits.ensures c.if-not-all_bits.true)
 
 pub is_code_word-requires : goal.is_code_word-requires
 is_code_word-requires c =
@@ -27,7 +27,7 @@ returns-then-is_code_word c =
     let bits =
     received_bits c.requires.0 (found_true c.all_bits.ensures
     c.if-not-all_bits.false) in
-    code_word_decoded (on_columns c.args.decoder.now.code) c.args.received.now bits c.copy_from_slice.ensures.after
+    code_word_decoded (on_columns c.args.code.now) c.args.received.now bits c.copy_from_slice.ensures.after
     (sym c.is_code_word.ensures ∙ c.if-is_code_word.true)
 
 pub candidate-turned-requires : goal.candidate-turned-requires
@@ -43,9 +43,9 @@ overflow_cast-turned c =
     record {
       fits = omega (
         arith,
-        candidate_few (on_columns c.args.decoder.now.code) c.args.received.now bits c.candidate-turned.ensures,
+        candidate_few (on_columns c.args.code.now) c.args.received.now bits c.candidate-turned.ensures,
         columns_short
-            (on_columns c.args.decoder.now.code),
+            (on_columns c.args.code.now),
       );
     }
 
@@ -54,14 +54,14 @@ returns-then-code-turned c =
     let bits =
     received_bits c.requires.0 (found_true c.all_bits.ensures
     c.if-not-all_bits.false) in
-    candidate_refused (on_columns c.args.decoder.now.code) c.args.received.now bits c.candidate-turned.ensures (inr c.if-code-turned.true)
+    candidate_refused (on_columns c.args.code.now) c.args.received.now bits c.candidate-turned.ensures (inr c.if-code-turned.true)
 
 pub is_code_word-requires-2 : goal.is_code_word-requires-2
 is_code_word-requires-2 c =
     let bits =
     received_bits c.requires.0 (found_true c.all_bits.ensures
     c.if-not-all_bits.false) in
-    (candidate_bits (on_columns c.args.decoder.now.code) c.args.received.now bits c.candidate-turned.ensures)
+    (candidate_bits (on_columns c.args.code.now) c.args.received.now bits c.candidate-turned.ensures)
 
 pub returns-then-not-is_code_word : goal.returns-then-not-is_code_word
 returns-then-not-is_code_word c =
@@ -69,7 +69,7 @@ returns-then-not-is_code_word c =
     received_bits c.requires.0 (found_true
     c.all_bits.ensures
     c.if-not-all_bits.false) in
-    candidate_refused (on_columns c.args.decoder.now.code) c.args.received.now bits c.candidate-turned.ensures
+    candidate_refused (on_columns c.args.code.now) c.args.received.now bits c.candidate-turned.ensures
     (inl (found_false c.is_code_word-2.ensures c.if-not-is_code_word.true))
 
 pub returns : goal.returns
@@ -78,6 +78,6 @@ returns c =
     received_bits c.requires.0 (found_true
     c.all_bits.ensures
     c.if-not-all_bits.false) in
-    candidate_decoded (on_columns c.args.decoder.now.code) c.args.received.now bits c.candidate-turned.ensures
+    candidate_decoded (on_columns c.args.code.now) c.args.received.now bits c.candidate-turned.ensures
     (found_true c.is_code_word-2.ensures c.if-not-is_code_word.false)
     c.if-code-turned.false

@@ -11,7 +11,7 @@ use Rattle.rows.proofs.based.read.Goals as goal
 pub returns-in_default : goal.returns-in_default
 returns-in_default c =
     let a = c.args in
-    let code = a.decoder.now.code in
+    let code = a.code.now in
     not_repaired code.c code.h.now code.cols.now c.requires.message_columns.0.number a.received.now c.requires.message_columns.1
     c.decode-recovery.ensures (c.in_default.is ∙ c.in-Refused.is)
 
@@ -25,7 +25,7 @@ take_out-requires c =
 pub returns-then-not-is_row_message : goal.returns-then-not-is_row_message
 returns-then-not-is_row_message c =
     let a = c.args in
-    let code = a.decoder.now.code in
+    let code = a.code.now in
     let call = c.decode-recovery in
     let said =
     taken_out c.requires.message_columns.0 call.new.word c.take_out.ensures (call.auto.word ∙ c.requires.received_len.1) in
@@ -35,7 +35,7 @@ returns-then-not-is_row_message c =
 pub returns : goal.returns
 returns c =
     let a = c.args in
-    let code = a.decoder.now.code in
+    let code = a.code.now in
     let call = c.decode-recovery in
     let said =
     taken_out c.requires.message_columns.0 call.new.word c.take_out.ensures (call.auto.word ∙ c.requires.received_len.1) in

@@ -16,31 +16,24 @@ use Rattle.rows.proofs.internal.read.Goals as goal
 pub returns-then-k-lt-ROW_BITS : goal.returns-then-k-lt-ROW_BITS
 returns-then-k-lt-ROW_BITS c =
     let a = c.args in
-    let code = a.decoder.now.code in
+    let code = a.code.now in
     let ended = read_narrow code.c code.h.now code.cols.now c.message_columns-k.ensures.number a.received.now c.if-k-lt-ROW_BITS.true
     a.repaired.now in
     record { value = ended.0; repaired_after = ended.1 }
 
 pub slice_bounds-message-end : goal.slice_bounds-message-end
 slice_bounds-message-end c =
-    omega (arith, fewer c.message_columns-k.ensures, columns_short (on_columns c.args.decoder.now.code))
+    omega (arith, fewer c.message_columns-k.ensures, columns_short (on_columns c.args.code.now))
 
 pub slice_bounds-read-end-2 : goal.slice_bounds-read-end-2
 slice_bounds-read-end-2 c =
-    let O = on_columns c.args.decoder.now.code in
+    let O = on_columns c.args.code.now in
     sym (length_lent (le_trans (fewer c.message_columns-k.ensures) (columns_short O)))
-
-pub slice_bounds-word-end : goal.slice_bounds-word-end
-slice_bounds-word-end c = omega (arith, columns_short (on_columns c.args.decoder.now.code))
-
-pub slice_bounds-read-end-3 : goal.slice_bounds-read-end-3
-slice_bounds-read-end-3 c =
-    sym (length_lent (columns_short (on_columns c.args.decoder.now.code)))
 
 pub read-reading-requires : goal.read-reading-requires
 read-reading-requires c =
     let a = c.args in
-    let code = a.decoder.now.code in
+    let code = a.code.now in
     let found = c.message_columns-k in
     let short = columns_short (on_columns code) in
     let message_long = sym (length_lent (le_trans (fewer found.ensures) short)) in
@@ -51,20 +44,10 @@ read-reading-requires c =
       received_len = (c.requires.0, length_lent short);
     }
 
-pub slice_bounds-word-end-in-Read : goal.slice_bounds-word-end-in-Read
-slice_bounds-word-end-in-Read c = (filled (columns_short (on_columns c.args.decoder.now.code)) c.read-reading.auto.word).fits
-
-pub slice_bounds-copy_from_slice-end : goal.slice_bounds-copy_from_slice-end
-slice_bounds-copy_from_slice-end c = sym (filled (columns_short (on_columns c.args.decoder.now.code)) c.read-reading.auto.word).length_front
-
-pub copy_from_slice-requires : goal.copy_from_slice-requires
-copy_from_slice-requires c =
-    c.requires.1 ∙ sym (filled (columns_short (on_columns c.args.decoder.now.code)) c.read-reading.auto.word).length_front
-
 pub returns-in-Read : goal.returns-in-Read
 returns-in-Read c =
     let a = c.args in
-    let code = a.decoder.now.code in
+    let code = a.code.now in
     let call = c.read-reading in
     let R =
     subst (λ (r : Reading). ReadInto code.c code.h.now code.cols.now a.received.now r call.new.word)
@@ -75,7 +58,7 @@ returns-in-Read c =
 pub returns-in_default : goal.returns-in_default
 returns-in_default c =
     let a = c.args in
-    let code = a.decoder.now.code in
+    let code = a.code.now in
     let call = c.read-reading in
     let R =
     subst (λ (r : Reading). ReadInto code.c code.h.now code.cols.now a.received.now r call.new.word)

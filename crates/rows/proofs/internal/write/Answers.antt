@@ -1,14 +1,16 @@
 -- `internal::write` meets its contract: 12, 11, or the row's word.
-use mathlib.Core.Path.{sym, ap, ◌∙◌, subst}
+use mathlib.Core.Path.{sym, ap, ap₂, ◌∙◌, subst}
 use Prim.Native.Nat.{ℕ}
 use native.Mathlib.Nat.{le_of_eq, le_trans}
 use native.Mathlib.Omega.{arith}
-use Rattle.algebra.specs.Flags.{found_false, found_true}
 use Rattle.basis.specs.Table.{free_count, Form}
 use Rattle.messages.specs.CodeBasis.{counted, fewer}
 use Rattle.parity.specs.Selected.{columns_short}
 use Rattle.parity.proofs.OfCode.{on_columns}
 use Rattle.slices.proofs.Room.{length_lent}
+use Rattle.gears.specs.Rows.{lamp_number}
+use Rattle.gears.proofs.AllowedRows.{not_allowed, is_allowed, row_parts}
+use Rattle.rows.specs.Answers.{row_word}
 use Rattle.rows.proofs.Ending.{write_narrow, write_no_row, write_fits, row_carried}
 use Rattle.rows.proofs.internal.write.Goals as goal
 
@@ -19,13 +21,13 @@ returns-then-k-lt-ROW_BITS c =
     write_narrow code.c code.h.now code.cols.now c.code_basis-k.ensures.columns.number a.gear a.lamp
     a.word.now c.if-k-lt-ROW_BITS.true
 
-pub returns-then-not-is_row : goal.returns-then-not-is_row
-returns-then-not-is_row c =
+pub returns-in_default : goal.returns-in_default
+returns-in_default c =
     let a = c.args in
     let code = a.code.now in
     write_no_row code.c code.h.now code.cols.now c.code_basis-k.ensures.columns.number a.gear
     a.lamp a.word.now c.if-k-lt-ROW_BITS.false
-    (found_false c.is_row.ensures c.if-not-is_row.true)
+    (not_allowed a.gear a.lamp c.allowed.ensures.none c.in_default.is)
 
 pub slice_bounds-message-end : goal.slice_bounds-message-end
 slice_bounds-message-end c =
@@ -56,9 +58,11 @@ returns c =
     let code = a.code.now in
     let B = c.code_basis-k.ensures in
     let written = c.write in
+    let row = c.in-Some.row in
+    let (gear_is, lamp_is) = row_parts a.gear a.lamp c.allowed.ensures.row c.in-Some.is in
     let long = length_lent (le_trans (fewer B.columns) (columns_short (on_columns code))) in
     write_fits code.c code.h.now code.cols.now B.columns.number a.gear a.lamp a.word.now
     c.if-k-lt-ROW_BITS.false
-    (found_true c.is_row.ensures
-    c.if-not-is_row.false)
-    (row_carried B a.gear a.lamp long c.requires written.auto.word written.ensures)
+    (is_allowed a.gear a.lamp c.allowed.ensures.none c.in-Some.is)
+    (row_carried B row.gear (lamp_number row.lamp) long c.requires written.auto.word written.ensures
+    ∙ ap₂ (row_word code.c code.h.now code.cols.now) gear_is lamp_is)

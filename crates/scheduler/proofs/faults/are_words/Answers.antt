@@ -1,27 +1,20 @@
 -- `faults::are_words` meets its contract: it tests the senders.
-use mathlib.Core.Path.{sym, ap, ◌∙◌}
-use mathlib.Core.Bool.{Bool, not, ◌||◌}
+use mathlib.Core.Path.{◌∙◌}
+use mathlib.Core.Bool.{not, ◌||◌}
 use Prim.Native.Nat.{ℕ}
 use native.Mathlib.Omega.{arith}
-use native.Mathlib.Nat.{zero-add}
 use borrow.Author.Rules.{rules}
 use borrow.Author.Tests.{tests}
 use lib.Dec.{eqb}
 use lib.ListN.{length}
-use mathlib.Core.Path.{◌≡◌, refl}
-use Rattle.std.proofs.lemmas.Iterator.{YieldsList-from_range, serves_from_Range}
+use Rattle.std.proofs.lemmas.Iterator.{YieldsList-from_range}
 use Rattle.std.proofs.lemmas.Iterator.Search.{all_from_yields_List}
-use Rattle.algebra.specs.All.{all}
-use Rattle.algebra.specs.AllLaws.{all_is, all_fails}
 use Rattle.algebra.specs.Lists.{entry_of}
 use Rattle.algebra.specs.Parts.{part}
 use Rattle.slices.specs.Bits.{all_bits}
 use Rattle.scheduler.specs.State.{all_words}
 use Rattle.slices.proofs.Entries.{tests_below}
 use Rattle.scheduler.proofs.faults.are_words.Goals as goal
-
-pub all-requires-clause-callable : goal.all-requires-clause-callable
-all-requires-clause-callable c = serves_from_Range (λ x q k. search (rules, tests)) (λ x low high. search rules)
 
 pub returns : goal.returns
 unfolding all_words

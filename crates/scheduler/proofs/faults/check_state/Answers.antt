@@ -24,9 +24,6 @@ returns-then-not-all_bits c =
     (state_not_marks a.d a.n a.waiting.now a.words.now a.next c.if-d-next.false
     (found_false c.all_bits.ensures c.if-not-all_bits.true)))
 
-pub are_words-requires : goal.are_words-requires
-are_words-requires c = c.requires.1
-
 pub returns-then-not-are_words : goal.returns-then-not-are_words
 returns-then-not-are_words c =
     let a = c.args in

@@ -2,13 +2,8 @@
 use native.Mathlib.Omega.{arith}
 use Rattle.algebra.specs.Lists.{entry_of}
 use Rattle.algebra.specs.PartLaws.{part_room}
-use Rattle.scheduler.proofs.Refusing.{word_idle, word_waits}
+use Rattle.scheduler.proofs.Refusing.{word_waits}
 use Rattle.scheduler.proofs.faults.is_word.Goals as goal
-
-pub returns-then-waiting-p-ne1 : goal.returns-then-waiting-p-ne1
-returns-then-waiting-p-ne1 c =
-    let a = c.args in
-    word_idle (entry_of a.waiting.now a.p) a.n a.words.now a.p c.if-waiting-p-ne1.true
 
 pub overflow_mul-start : goal.overflow_mul-start
 overflow_mul-start c =
@@ -16,10 +11,6 @@ overflow_mul-start c =
 
 pub overflow_add-end : goal.overflow_add-end
 overflow_add-end c =
-    omega (arith, part_room c.args.n c.requires.0)
-
-pub slice_bounds-all_bits-end : goal.slice_bounds-all_bits-end
-slice_bounds-all_bits-end c =
     omega (arith, part_room c.args.n c.requires.0)
 
 pub returns : goal.returns

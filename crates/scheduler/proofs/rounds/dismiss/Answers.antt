@@ -1,6 +1,5 @@
 -- `dismiss` meets its contract, sender by sender.
 use mathlib.Core.Path.{refl}
-use native.Mathlib.Omega.{arith}
 use lib.ListN.{length}
 use Rattle.algebra.specs.Filling.{filling_start, filling_end}
 use Rattle.algebra.specs.Flags.{found_false, found_true}
@@ -11,9 +10,6 @@ use Rattle.scheduler.proofs.rounds.dismiss.Goals as goal
 pub loop-p-init : goal.loop-p-init
 loop-p-init c =
     let w = c.args.waiting.now in filling_start (kept_mark c.args.marks.now w) (length w) w refl
-
-pub bounds-marks-p : goal.bounds-marks-p
-bounds-marks-p c = omega (arith, c.requires, c.loop-p-test.true)
 
 pub loop-p-preserved : goal.loop-p-preserved
 loop-p-preserved c =

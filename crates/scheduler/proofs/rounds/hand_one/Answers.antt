@@ -1,5 +1,5 @@
 -- `hand_one` meets its contract: nothing, a code word as it is, or what repair finds.
-use mathlib.Core.Path.{sym, ap, ◌∙◌}
+use mathlib.Core.Path.{ap}
 use Rattle.turns.specs.Marks.{stays}
 use Rattle.parity.proofs.OfCode.{on_columns}
 use Rattle.scheduler.proofs.Handing.{none_handed, some_handed, code_word_handed}
@@ -10,14 +10,10 @@ returns-in-Stays c =
     let ended = none_handed _ _ _ _ _ _ (ap stays c.in-Stays.is) in
     record { value = ended.0; handed_after = ended.1 }
 
-pub copy_from_slice-requires : goal.copy_from_slice-requires
-copy_from_slice-requires c =
-    let s = c.requires in s.word_len.1 ∙ sym s.word_len.0
-
 pub returns-in-CodeWord : goal.returns-in-CodeWord
 returns-in-CodeWord c =
     let (bits, is) = c.requires.bits c.in-CodeWord.is in
-    let ended = code_word_handed _ _ _ _ _ _ (on_columns c.args.decoder.now.code) bits is
+    let ended = code_word_handed _ _ _ _ _ _ (on_columns c.args.code.now) bits is
     (ap stays c.in-CodeWord.is) c.copy_from_slice.ensures.after in
     record { value = ended.0; handed_after = ended.1 }
 

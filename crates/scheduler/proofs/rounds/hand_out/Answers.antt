@@ -8,7 +8,7 @@ use lib.ListN.{length}
 use Rattle.algebra.specs.Filling.{filling_start, filling_turn, filling_end}
 use Rattle.turns.specs.Marks.{mark_in}
 use Rattle.algebra.specs.PartLaws.{part_room, part_lent, length_lent, replacing_start, replacing_inside, replacing_old}
-use Rattle.algebra.specs.PartLaws.{replacing_lent, replacing_length, replacing_end}
+use Rattle.algebra.specs.PartLaws.{replacing_lent, replacing_end}
 use Rattle.slices.specs.Bits.{IsBits}
 use Rattle.parity.specs.OfCode.{of_code}
 use Rattle.parity.specs.Word.{is_code_word}
@@ -19,60 +19,45 @@ use Rattle.scheduler.proofs.rounds.hand_out.Goals as goal
 pub loop-p-init : goal.loop-p-init
 loop-p-init c = (
   filling_start _ (length c.args.marks.now) c.args.answers.now c.requires.answers_long,
-  replacing_start (length c.args.decoder.now.code.cols.now) _ (length c.args.marks.now) c.args.handed.now c.requires.handed_long,
+  replacing_start (length c.args.code.now.cols.now) _ (length c.args.marks.now) c.args.handed.now c.requires.handed_long,
 )
 
 pub overflow_mul-start : goal.overflow_mul-start
 overflow_mul-start c =
-    omega (arith, part_room (length c.args.decoder.now.code.cols.now) (taken_in c.requires c.loop-p-test.true), c.requires.words_long)
+    omega (arith, part_room (length c.args.code.now.cols.now) (taken_in c.requires c.loop-p-test.true), c.requires.words_long)
 
 pub overflow_add-end : goal.overflow_add-end
 overflow_add-end c =
-    omega (arith, part_room (length c.args.decoder.now.code.cols.now) (taken_in c.requires c.loop-p-test.true), c.requires.words_long)
-
-pub slice_bounds-hand_one-end : goal.slice_bounds-hand_one-end
-slice_bounds-hand_one-end c =
-    omega (arith, part_room (length c.args.decoder.now.code.cols.now) (taken_in c.requires c.loop-p-test.true), c.requires.words_long)
-
-pub slice_bounds-hand_one-end-in-loop-p : goal.slice_bounds-hand_one-end-in-loop-p
-slice_bounds-hand_one-end-in-loop-p c =
-    replacing_inside c.loop-p.invariant.1 (handed_wide c.requires) (taken_in c.requires c.loop-p-test.true)
+    omega (arith, part_room (length c.args.code.now.cols.now) (taken_in c.requires c.loop-p-test.true), c.requires.words_long)
 
 pub hand_one-requires : goal.hand_one-requires
 hand_one-requires c =
     let a = c.args in
-    let n = length a.decoder.now.code.cols.now in
+    let n = length a.code.now.cols.now in
     let l = c.loop-p in
     let taken = taken_in c.requires c.loop-p-test.true in
     let inside : l.p * n + n ≤ length a.words.now = omega (arith, part_room n taken, c.requires.words_long) in
     record {
       word_len = (length_lent n a.words.now l.p inside, length_lent n l.handed l.p (replacing_inside l.invariant.1 (handed_wide c.requires) taken));
       bits = λ e.
-          subst (λ (w : List ℕ). IsBits n w × (of_code is_code_word a.decoder.now.code w ≡ true)) (sym (part_lent n a.words.now l.p))
+          subst (λ (w : List ℕ). IsBits n w × (of_code is_code_word a.code.now w ≡ true)) (sym (part_lent n a.words.now l.p))
           (c.requires.checked l.p taken e);
     }
-
-pub bounds-marks-p : goal.bounds-marks-p
-bounds-marks-p c = taken_in c.requires c.loop-p-test.true
 
 pub loop-p-preserved : goal.loop-p-preserved
 loop-p-preserved c =
     let a = c.args in
-    let n = length a.decoder.now.code.cols.now in
+    let n = length a.code.now.cols.now in
     let l = c.loop-p in
     let taken = taken_in c.requires c.loop-p-test.true in
     let mark = mark_in a.marks.now l.p in
     let word = part_lent n a.words.now l.p in
     let record { value = answered; handed_after = written } = c.hand_one.ensures in (
-      filling_turn l.invariant.0 taken (answered ∙ ap (of_code answer_of a.decoder.now.code mark) word),
+      filling_turn l.invariant.0 taken (answered ∙ ap (of_code answer_of a.code.now mark) word),
       replacing_lent l.invariant.1 (handed_wide c.requires) taken
           (written
-          ∙ ap₂ (of_code handed_of a.decoder.now.code mark) word (part_lent n l.handed l.p ∙ replacing_old l.invariant.1 (handed_wide c.requires))),
+          ∙ ap₂ (of_code handed_of a.code.now mark) word (part_lent n l.handed l.p ∙ replacing_old l.invariant.1 (handed_wide c.requires))),
     )
-
-pub shape_of-handed : goal.shape_of-handed
-shape_of-handed c =
-    replacing_length c.loop-p.invariant.1 (handed_wide c.requires)
 
 pub returns : goal.returns
 returns c =

@@ -10,6 +10,6 @@ use Rattle.scheduler.proofs.rounds.hand_out.Given as goal
 
 abbrev pub invariant-loop-p : goal.invariant-loop-p
 invariant-loop-p l =
-    Filling (λ i. of_code answer_of l.decoder.code (mark_in l.marks i) (part (length l.decoder.code.cols.now) l.words i)) (length l.marks) l.initial.answers l.answers l.p
-    × Replacing (length l.decoder.code.cols.now) (λ i. of_code handed_of l.decoder.code (mark_in l.marks i) (part (length l.decoder.code.cols.now) l.words i) (part (length l.decoder.code.cols.now) l.initial.handed i)) (length l.marks)
+    Filling (λ i. of_code answer_of l.code (mark_in l.marks i) (part (length l.code.cols.now) l.words i)) (length l.marks) l.initial.answers l.answers l.p
+    × Replacing (length l.code.cols.now) (λ i. of_code handed_of l.code (mark_in l.marks i) (part (length l.code.cols.now) l.words i) (part (length l.code.cols.now) l.initial.handed i)) (length l.marks)
     l.initial.handed l.handed l.p

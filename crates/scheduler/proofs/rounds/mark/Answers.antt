@@ -7,9 +7,6 @@ pub returns-then-wait-ne1 : goal.returns-then-wait-ne1
 returns-then-wait-ne1 c =
     mark_none _ _ _ _ c.if-wait-ne1.true
 
-pub is_code_word-requires : goal.is_code_word-requires
-is_code_word-requires c = c.requires c.if-wait-ne1.false
-
 pub returns-then-is_code_word : goal.returns-then-is_code_word
 returns-then-is_code_word c =
     mark_code_word _ _ _ _ c.if-wait-ne1.false

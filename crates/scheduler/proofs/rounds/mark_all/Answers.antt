@@ -26,14 +26,6 @@ overflow_add-end c =
     let l : c.loop-p.p < length c.args.waiting.now = omega (arith, c.requires.marks_len, c.loop-p-test.true) in
     omega (arith, part_room (length c.args.code.now.cols.now) l, c.requires.words.long)
 
-pub bounds-waiting-p : goal.bounds-waiting-p
-bounds-waiting-p c = omega (arith, c.requires.marks_len, c.loop-p-test.true)
-
-pub slice_bounds-mark-end : goal.slice_bounds-mark-end
-slice_bounds-mark-end c =
-    let l : c.loop-p.p < length c.args.waiting.now = omega (arith, c.requires.marks_len, c.loop-p-test.true) in
-    omega (arith, part_room (length c.args.code.now.cols.now) l, c.requires.words.long)
-
 pub mark-requires : goal.mark-requires
 mark-requires c =
     let n = length c.args.code.now.cols.now in

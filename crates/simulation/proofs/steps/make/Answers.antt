@@ -11,7 +11,7 @@ use Rattle.messages.specs.CodeBasis.{CodeBasis, MessageColumns, counted, fewer}
 use Rattle.parity.specs.declared.Code.{Code}
 use Rattle.parity.specs.Selected.{columns_short}
 use Rattle.parity.proofs.OfCode.{on_columns}
-use Rattle.gears.specs.Rows.{row_bits}
+use Rattle.gears.specs.Rows.{row_bits, lamp_number}
 use Rattle.rows.specs.Answers.{reading_answer}
 use Rattle.simulation.specs.Ride.{verdict_of, step_verdict}
 use Rattle.simulation.proofs.Sending.{sent_is}
@@ -25,22 +25,16 @@ short_message : (code : Code) {rows leads : List ℕ} {k : ℕ} → CodeBasis co
 short_message code B = le_trans (fewer B.columns) (short code)
 
 pub slice_bounds-message-end : goal.slice_bounds-message-end
-slice_bounds-message-end c = short_message c.args.decoder.now.code c.requires.code_basis.0
+slice_bounds-message-end c = short_message c.args.code.now c.requires.code_basis.0
 
 pub slice_bounds-send-end : goal.slice_bounds-send-end
-slice_bounds-send-end c = sym (length_lent (short_message c.args.decoder.now.code c.requires.code_basis.0))
-
-pub slice_bounds-word-end : goal.slice_bounds-word-end
-slice_bounds-word-end c = short c.args.decoder.now.code
-
-pub slice_bounds-send-end-2 : goal.slice_bounds-send-end-2
-slice_bounds-send-end-2 c = sym (length_lent (short c.args.decoder.now.code))
+slice_bounds-send-end c = sym (length_lent (short_message c.args.code.now c.requires.code_basis.0))
 
 pub send-requires : goal.send-requires
 send-requires c =
     let s = c.requires in
     let a = c.args in
-    let code = a.decoder.now.code in
+    let code = a.code.now in
     let B = s.code_basis.0 in
     let word_long = length_lent (short code) in
     let message_long = length_lent (short_message code B) in
@@ -52,29 +46,17 @@ send-requires c =
       bits = (s.bits.0, s.bits.1 ∙ sym word_long);
     }
 
-pub slice_bounds-word-end-2 : goal.slice_bounds-word-end-2
-slice_bounds-word-end-2 c = (filled (short c.args.decoder.now.code) c.send.auto.word).fits
-
-pub slice_bounds-read-end-2 : goal.slice_bounds-read-end-2
-slice_bounds-read-end-2 c = sym (filled (short c.args.decoder.now.code) c.send.auto.word).length_front
-
 pub slice_bounds-message-end-2 : goal.slice_bounds-message-end-2
-slice_bounds-message-end-2 c = (filled (short_message c.args.decoder.now.code c.requires.code_basis.0) c.send.auto.message).fits
+slice_bounds-message-end-2 c = (filled (short_message c.args.code.now c.requires.code_basis.0) c.send.auto.message).fits
 
 pub slice_bounds-read-end-3 : goal.slice_bounds-read-end-3
-slice_bounds-read-end-3 c = sym (filled (short_message c.args.decoder.now.code c.requires.code_basis.0) c.send.auto.message).length_front
-
-pub slice_bounds-repaired-end : goal.slice_bounds-repaired-end
-slice_bounds-repaired-end c = short c.args.decoder.now.code
-
-pub slice_bounds-read-end-4 : goal.slice_bounds-read-end-4
-slice_bounds-read-end-4 c = sym (length_lent (short c.args.decoder.now.code))
+slice_bounds-read-end-3 c = sym (filled (short_message c.args.code.now c.requires.code_basis.0) c.send.auto.message).length_front
 
 pub read-reading-requires : goal.read-reading-requires
 read-reading-requires c =
     let s = c.requires in
     let a = c.args in
-    let code = a.decoder.now.code in
+    let code = a.code.now in
     let B = s.code_basis.0 in
     let fits = short code in
     let message_long = (filled (short_message code B) c.send.auto.message).length_front in
@@ -91,10 +73,12 @@ unfolding step_verdict
 returns c =
     let s = c.requires in
     let a = c.args in
-    let code = a.decoder.now.code in
+    let code = a.code.now in
     let B = s.code_basis.0 in
     let fits = short code in
-    let word_is = sent_is B a.gear a.lamp (length_lent (short_message code B)) (length_lent fits) c.send.ensures in
+    let gear = a.row.gear in
+    let lamp = lamp_number a.row.lamp in
+    let word_is = sent_is B gear lamp (length_lent (short_message code B)) (length_lent fits) c.send.ensures in
     c.verdict.ensures
-    ∙ ap (verdict_of a.gear a.lamp)
+    ∙ ap (verdict_of gear lamp)
     (c.read-reading.ensures.answer ∙ ap (reading_answer code.c code.h.now code.cols.now) ((filled fits c.send.auto.word).front ∙ word_is))

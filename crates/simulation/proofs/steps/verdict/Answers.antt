@@ -1,34 +1,35 @@
 -- `verdict` meets its contract: what was read is compared with what was sent.
 use mathlib.Core.Path.{◌≡◌, sym, ap, ◌∙◌}
-use mathlib.Core.Bool.{Bool, cond, ◌&&◌}
+use mathlib.Core.Bool.{Bool, true, false, cond, ◌&&◌}
 use Prim.Native.Nat.{ℕ}
 use lib.Dec.{eqb}
+use denote.Enum.Bare.{sameb}
+use borrow.Author.Rules.{rules}
+use Rattle.gears.specs.contracts.Lamp.{the_type}
 use Rattle.gears.specs.declared.Row.{Row}
 use Rattle.gears.specs.Rows.{lamp_number}
+use Rattle.gears.proofs.SameLamp.{same_lamp}
 use Rattle.rows.specs.declared.Reading.{Reading}
 use Rattle.rows.specs.declared.Reading.TheVariants.{Read}
 use Rattle.simulation.specs.declared.Verdict.TheVariants.{Right, Wrong}
 use Rattle.simulation.specs.Ride.{verdict_of}
 use Rattle.simulation.proofs.steps.verdict.Goals as goal
 
--- a row that was read, and the test of both its parts
-compared : (gear lamp : ℕ) {reading : Reading} {row : Row} {count shown : ℕ} {b : Bool} → reading ≡ Read row count
-    → shown ≡ lamp_number row.lamp → (eqb row.gear gear && eqb shown lamp) ≡ b → cond b Right Wrong ≡ verdict_of gear lamp reading
+-- a row that was read, and the test of both its parts, which `search` finds below by what it says, so that a proof names no word of it
+compared : (sent : Row) (b : Bool) {reading : Reading} {row : Row} {count : ℕ} → reading ≡ Read row count
+    → (eqb row.gear sent.gear && sameb the_type row.lamp sent.lamp) ≡ b → cond b Right Wrong ≡ verdict_of sent.gear (lamp_number sent.lamp) reading
 unfolding verdict_of
-compared gear lamp {row = row} e shown-is t =
-    ap (λ (b : Bool). cond b Right Wrong) (sym t ∙ ap (λ (x : ℕ). eqb row.gear gear && eqb x lamp) shown-is)
-    ∙ ap (verdict_of gear lamp) (sym e)
+compared sent b {row = row} is t =
+    ap (λ (b : Bool). cond b Right Wrong) (sym t ∙ ap (λ (b : Bool). eqb row.gear sent.gear && b) (same_lamp row.lamp sent.lamp))
+    ∙ ap (verdict_of sent.gear (lamp_number sent.lamp)) (sym is)
 
-pub returns-then-row-gear : goal.returns-then-row-gear
-returns-then-row-gear c =
-    let a = c.args in
-    compared a.gear a.lamp c.in-Read.is c.from.ensures.0 c.if-row-gear.true
+pub returns-then-as_sent : goal.returns-then-as_sent
+returns-then-as_sent c = compared c.args.sent true c.in-Read.is (search rules)
 
-pub returns-else-row-gear : goal.returns-else-row-gear
-returns-else-row-gear c =
-    let a = c.args in
-    compared a.gear a.lamp c.in-Read.is c.from.ensures.0 c.if-row-gear.false
+pub returns-else-as_sent : goal.returns-else-as_sent
+returns-else-as_sent c = compared c.args.sent false c.in-Read.is (search rules)
 
 pub returns-in-Refused : goal.returns-in-Refused
 unfolding verdict_of
-returns-in-Refused c = ap (verdict_of c.args.gear c.args.lamp) (sym c.in-Refused.is)
+returns-in-Refused c =
+    let sent = c.args.sent in ap (verdict_of sent.gear (lamp_number sent.lamp)) (sym c.in-Refused.is)

@@ -10,15 +10,6 @@ use Rattle.parity.proofs.OfCode.{on_columns}
 use Rattle.parity.specs.Selected.{columns_short}
 use Rattle.words.proofs.internal.roles.Goals as goal
 
-pub roles-requires : goal.roles-requires
-roles-requires c =
-    omega (
-      arith,
-      columns_short
-          (on_columns c.args.code.now),
-      c.requires,
-    )
-
 pub overflow_cast-result : goal.overflow_cast-result
 overflow_cast-result c =
     record {

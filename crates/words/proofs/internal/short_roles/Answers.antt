@@ -34,9 +34,6 @@ module _ (hidden : List ℕ) {c : Parameters} {h cols : List ℕ} (O : OnColumns
     left : k - (length hidden - sent) ≡ sent_dimension c h cols hidden
     left = omega (arith, more)
 
-pub check_marks-requires : goal.check_marks-requires
-check_marks-requires c = c.requires.0
-
 pub returns-in_err-check_marks : goal.returns-in_err-check_marks
 returns-in_err-check_marks c =
     let tested = c.in_err-check_marks.ensures in
@@ -50,9 +47,6 @@ pub overflow_sub-not_sent : goal.overflow_sub-not_sent
 overflow_sub-not_sent c =
     let a = c.args in
     omega (arith, c.sent_places.ensures, sent_le a.hidden.now)
-
-pub roles-requires : goal.roles-requires
-roles-requires c = c.requires.1
 
 pub overflow_cast-result : goal.overflow_cast-result
 overflow_cast-result c =

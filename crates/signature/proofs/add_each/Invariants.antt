@@ -1,9 +1,0 @@
--- `add_each` meets its contract. The loop's invariant: what is passed is stored, and the rest is as it was.
-use mathlib.Core.Path.{◌≡◌}
-use lib.ListN.{length}
-use Rattle.algebra.specs.Filling.{Filling}
-use Rattle.signature.specs.Inverses.{added}
-use Rattle.signature.proofs.add_each.Given as goal
-
-abbrev pub invariant-loop-i : goal.invariant-loop-i
-invariant-loop-i l = (l.i-end ≡ length l.initial.out) × Filling (added l.a l.x) (length l.initial.out) l.initial.out l.out l.i

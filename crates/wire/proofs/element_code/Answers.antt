@@ -1,7 +1,0 @@
--- `element_code` meets its contract, case by case.
-use Rattle.std.proofs.Common.{sym, ap, ◌∙◌}
-use Rattle.wire.specs.Wire.{element_code}
-use Rattle.wire.proofs.element_code.Goals as goal
-
-pub returns-in-Err : goal.returns-in-Err
-returns-in-Err c = c.minus.ensures ∙ ap element_code (sym c.in-Err.is)

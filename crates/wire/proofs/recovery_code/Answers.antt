@@ -1,7 +1,0 @@
--- `recovery_code` meets its contract, case by case.
-use Rattle.std.proofs.Common.{sym, ap, ◌∙◌}
-use Rattle.wire.specs.Wire.{recovery_code}
-use Rattle.wire.proofs.recovery_code.Goals as goal
-
-pub returns-in-Refused : goal.returns-in-Refused
-returns-in-Refused c = c.minus.ensures ∙ ap recovery_code (sym c.in-Refused.is)
