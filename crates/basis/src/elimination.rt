@@ -105,7 +105,7 @@ pub fn parity_basis(m: u32, t: usize, h: &[Elem], cols: &[Column], basis: &mut B
     let width = m as usize;
     let mut row: [u64; ROW] = [0; ROW];
     let mut rank = 0;
-    // By index: k is the row's number, from which its element and its bit are told.
+    // By number, and not element by element and bit by bit: one loop, which one `break` leaves.
     for k in 0..t * width {
         // Where every place has a row, the rows that are left say nothing new.
         if cols.len() <= rank {

@@ -91,6 +91,7 @@ fn lower(a: Result<(), Refusal>, b: Result<(), Refusal>) -> Result<(), Refusal>
     a
 }
 
+// Part by part, as C lends them: a struct of them would be taken apart at each definition.
 fn agree(
     c1: Parameters,
     h1: &[Elem],

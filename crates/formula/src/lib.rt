@@ -89,6 +89,7 @@ fn check_lent(m: u32, blocks: &Blocks, n: usize) -> Result<(), Refusal>
     Ok(())
 }
 
+// Two tests of the four blocks, each written out: what a closure is asked would be longer than both.
 fn all_fit(blocks: &Blocks, n: usize) -> bool
     ensures { result ≡ every (fits_buffer n) (lent blocks.now) }
 {

@@ -15,7 +15,7 @@ use field::Elem;
 use field::internal::product;
 use slices::LONGEST;
 
-// The blocks that are lent for the letters; a block that is not lent is an empty slice.
+// The blocks that are lent for the letters; a block that is not lent is an empty slice, as the definitions read it (`lent`).
 #[derive(Clone, Copy)]
 pub struct Blocks<'a> {
     pub a: &'a [Elem],

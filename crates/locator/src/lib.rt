@@ -23,7 +23,7 @@ fn combine(m: u32, n: usize, a: Elem, b: Elem, pivot: &[Elem], other: &mut [Elem
     requires half { Half m half pivot.now × Half m n other.old × ((k : ℕ) → n ≤ k → (gf m).mul b (entry_of pivot.now k) ≡ 0) }
     ensures { Combined m n a b pivot.now other.old other.new }
 {
-    // By index: std says nothing of what is written after an adapter of `iter_mut`, as `zip`.
+    // By index: std says nothing of what is written after an adapter of `iter_mut` other than `enumerate`, as `zip`.
     for (k, coefficient) in other[..n].iter_mut().enumerate() {
         *coefficient = product(m, a, *coefficient) ^ product(m, b, pivot[k]);
     }

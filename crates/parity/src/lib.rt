@@ -1,5 +1,5 @@
 // The parity check of a code. In specs/ stand words, code words and syndromes as they are defined, with their laws, for any list of the code's
-// columns; here is the syndrome.
+// columns; here are the code as a type, its syndromes (`syndromes`), and its roots and support (`points`).
 #![tactic(auto)]
 
 pub mod points;

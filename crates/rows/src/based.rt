@@ -41,6 +41,7 @@ pub fn read(
     ensures { OfCode ReadInto code.now received.now result word.new }
 {
     let recovery = decode(code, received, word);
+    // The form that 01 asks for here.
     let Recovery::Repaired(turned) = recovery else {
         let Recovery::Refused(refusal) = recovery else {
             unreachable!()

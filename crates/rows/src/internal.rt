@@ -12,7 +12,7 @@ use parity::Code;
 use refusals::{Refusal, Rule};
 use slices::LONGEST;
 
-// The word of a row into `word`, or 12 or 11. Its basis is on the stack only here.
+// The word of a row into `word`, or 12 or 11. Gear and lamp are numbers as C hands them in, since 12 comes before 11. Its basis is on the stack only here.
 #[inline(never)]
 pub fn write(code: &Code<'_>, gear: u32, lamp: u32, word: &mut [u8]) -> Result<(), Refusal>
     requires { length word.old ≡ length code.now.cols.now }

@@ -38,7 +38,7 @@ fn mark_all(code: &Code<'_>, waiting: &[u8], words: &[u8], marks: &mut [Mark])
 {
     let n = code.cols.len();
     // Cut by hand: `chunks_exact` asks that n is not 0, which a code on its columns does not tell. By index, since std says nothing of what is written
-    // after an adapter of `iter_mut`, as `zip`.
+    // after an adapter of `iter_mut` other than `enumerate`, as `zip`.
     for (p, to) in marks.iter_mut().enumerate() {
         let start = p * n;
         let end = start + n;
@@ -85,7 +85,7 @@ fn dismiss(marks: &[Mark], waiting: &mut [u8])
     requires { length marks.now ≡ length waiting.old }
     ensures { waiting.new ≡ waiting_of marks.now waiting.old }
 {
-    // By index: std says nothing of what is written after an adapter of `iter_mut`, as `zip`.
+    // By index: std says nothing of what is written after an adapter of `iter_mut` other than `enumerate`, as `zip`.
     for (p, wait) in waiting.iter_mut().enumerate() {
         if !marks[p].stays() {
             *wait = 0;

@@ -120,6 +120,7 @@ pub fn store_roots(inverses: &[Elem], offset: Elem, roots: &mut [Elem])
     requires { length roots.old ≤ length inverses.now }
     ensures { roots.new ≡ tabulate (length roots.old) (added inverses.now offset) }
 {
+    // By index: std says nothing of what is written after an adapter of `iter_mut` other than `enumerate`, as `zip`.
     for (i, root) in roots.iter_mut().enumerate() {
         *root = inverses[i] ^ offset;
     }

@@ -22,7 +22,7 @@ use refusals::{Refusal, Rule};
 use rows::{Reading, based};
 use slices::{LONGEST, all_bits};
 
-// The steps that are lent to a ride: the gears, the lamps, and the marks of all steps one after the other.
+// The steps that are lent to a ride: the gears, the lamps, and the marks of all steps one after the other, three lists as C lends them.
 #[derive(Clone, Copy)]
 pub struct Steps<'a> {
     pub gears: &'a [u8],

@@ -1,4 +1,4 @@
-// What every call asks of the slices that it is lent.
+// What every call asks of the slices that it is lent, and what is added in place, whatever the entries are.
 #![tactic(auto)]
 
 ghost use Rattle.std.specs.Prelude.{◌≡◌, ℕ, ◌<◌, length, get_or};
@@ -45,6 +45,7 @@ pub fn add<T: Copy + BitXorAssign>(from: &[T], to: &mut [T])
     ensures same_length { length to.new ≡ length to.old }
     ensures sums { (k : ℕ) (x : T) → k < length to.old → T.bitxor_assign_gives (get_or to.old k x) (get_or from.now k x) (get_or to.new k x) }
 {
+    // By index: std says nothing of what is written after an adapter of `iter_mut` other than `enumerate`, as `zip`.
     for (i, entry) in to.iter_mut().enumerate() {
         *entry ^= from[i];
     }

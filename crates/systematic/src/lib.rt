@@ -19,7 +19,7 @@ pub fn roles(leads: &[u8], out: &mut [u8])
     requires { length out.old ≤ length leads.now }
     ensures { out.new ≡ tabulate (length out.old) (λ p. cond (free_at leads.now p) 1 0) }
 {
-    // By index: std says nothing of what is written after an adapter of `iter_mut`, as `zip`.
+    // By index: std says nothing of what is written after an adapter of `iter_mut` other than `enumerate`, as `zip`.
     for (p, role) in out.iter_mut().enumerate() {
         *role = u8::from(leads[p] != 1);
     }
@@ -31,7 +31,7 @@ fn place(message: &[u8], leads: &[u8], word: &mut [u8])
     ensures { word.new ≡ placed_at (length word.old) leads.now message.now }
 {
     let mut taken = 0;
-    // By index, as in `roles`.
+    // By index, as in `roles`; `taken` is the place in the message, which moves at free places alone.
     for (j, entry) in word.iter_mut().enumerate() {
         if leads[j] == 1 {
             *entry = 0;

@@ -17,7 +17,8 @@ use parity::Code;
 use refusals::Refusal;
 use shortened::{Lent, Setting, begin};
 
-// 1 for each message column and 0 for each check column into `out`, hidden or sent, and k, the number of sent message columns.
+// 1 for each message column and 0 for each check column into `out`, hidden or sent, and k, the number of sent message columns. It does not begin by
+// `begin`, since it is of all places.
 pub fn roles(c: Parameters, h: &[Elem], s: &Setting<'_>, out: &mut [u8]) -> Result<u32, Refusal>
     ensures value { result ≡ roles_answer c h.now s.now out.old }
     ensures out_after { out.new ≡ roles_after c h.now s.now out.old }
