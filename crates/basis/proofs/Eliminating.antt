@@ -4,7 +4,7 @@ use mathlib.Core.Logic.{◌↔◌}
 use mathlib.Core.Bool.{true, false, false≢true}
 use mathlib.Core.List.{List}
 use Prim.Native.Nat.{ℕ, ◌+◌, ◌*◌, ◌/◌, ◌%◌, ◌≤◌, ◌<◌}
-use native.Mathlib.Nat.{not-suc-le-zero, div-lt_iff_lt-mul, mod-lt, lt_of_lt_of_le, le_trans, mul-le-mul_left, mul-le-mul_right}
+use native.Mathlib.Nat.{not-suc-le-zero, div-lt_iff_lt-mul, mod-lt, lt_of_lt_of_le}
 use native.Mathlib.Omega.{arith}
 use borrow.Author.Count.{below_more}
 use lib.Arith.{digits_div, digits_mod, digits_lt}
@@ -18,8 +18,6 @@ use Rattle.algebra.specs.Lists.{entry_of}
 use Rattle.algebra.specs.Places.{count}
 use Rattle.algebra.specs.PlaceLaws.{count-le, count_full, count_none}
 use Rattle.algebra.specs.SumLaws.{sum-nought}
-use Rattle.field.specs.Words.{widest}
-use Rattle.field.specs.Gf.{Width}
 use Rattle.slices.specs.Lengths.{longest}
 use Rattle.basis.specs.Packed.{Packs}
 use Rattle.basis.specs.Table.{row_bit, lead_at, Room, Form, Inserted, parity_bit, ParityBasis}
@@ -119,15 +117,3 @@ module _ {m t : ℕ} {h cols rows leads : List ℕ} {rank k : ℕ} (E : Eliminat
       whole pos
       (λ w hw s i l.
       full_solves (length cols) rows leads E.form (subst (λ (x : ℕ). length cols ≤ x) E.rank_is full) (parity_bit h cols (i / m) (i % m)) w hw s)
-
--- the number of parity rows is small, and row k is one of them
-pub rows_fit : (m t : ℕ) → Width m → t ≤ longest → t * m ≤ longest * widest
-rows_fit m t W h = le_trans (mul-le-mul_right m h) (mul-le-mul_left longest W.high)
-
-pub row_index : (m t k : ℕ) → Width m → k < t * m → k / m < t
-row_index m t k W l =
-    let positive : 0 < m = omega (arith, W.low) in (div-lt_iff_lt-mul positive).1 l
-
-pub bit_index : (m k : ℕ) → Width m → k % m < widest
-bit_index m k W =
-    let positive : 0 < m = omega (arith, W.low) in lt_of_lt_of_le (mod-lt k positive) W.high

@@ -1,5 +1,5 @@
 -- Bringing a row into the basis, over plain lists: what storing, reducing and the loop that does both make of it.
-use mathlib.Core.Path.{◌≡◌, refl, sym, ap, ap₂, ◌∙◌, subst, subst₂}
+use mathlib.Core.Path.{◌≡◌, sym, ap, ap₂, ◌∙◌, subst, subst₂}
 use mathlib.Core.Logic.{◌≢◌, ◌↔◌}
 use mathlib.Core.Bool.{Bool, true, false, cond}
 use mathlib.Core.List.{List, ◌++◌}
@@ -26,7 +26,7 @@ use Rattle.algebra.specs.XorLaws.{⊕_self, ⊕-zero}
 use Rattle.slices.specs.Lengths.{longest}
 use Rattle.basis.specs.Packed.{packed_bit, Added}
 use Rattle.basis.specs.Table.{row_words, row_bit, lead_at, Form, RowFits, Reduced, Stored, Inserted}
-use Rattle.basis.proofs.Parts.{part_words, part_words_lem, row_part, part_bit, part_fits}
+use Rattle.basis.proofs.Parts.{part_words, part_words_lem, row_part, part_bit}
 
 pub reduced : {p : ℕ} {rows old new : List ℕ} → RowFits p rows old → Added (row_part rows p) old new → Reduced p rows old new
 reduced {p} {rows} {old} F a =
@@ -109,22 +109,9 @@ pub record Inserting (n : ℕ) (first rows leads row : List ℕ) (p : ℕ) : Typ
   pub empty : (j : ℕ) → j < p → packed_bit row j ≡ 0
   pub same : (w : ℕ → ℕ) → Solves gf2 n (row_bit rows) (lead_at leads) w → dot gf2 n (packed_bit row) w ≡ dot gf2 n (packed_bit first) w
 
-pub inserting_start : {n : ℕ} {rows leads row : List ℕ} → Form n rows leads → length row ≡ row_words → Inserting n row rows leads row 0
-inserting_start F h = record { form = F; long = h; bound = omega arith; empty = λ j l. absurd (not-suc-le-zero l); same = λ w s. refl }
-
 module _ {n : ℕ} {first rows leads row : List ℕ} {p : ℕ} (I : Inserting n first rows leads row p) (l : p < n) where
   inside : (j : ℕ) → j < n → j < longest
   inside j m = lt_of_lt_of_le m I.form.room.short
-
-  -- the place stands in the row, the table and the leads
-  pub in_row : p < length row * 64
-  in_row = subst (λ (k : ℕ). p < k * 64) (sym I.long) (omega (arith, I.form.room.short))
-
-  pub in_table : RowFits p rows row
-  in_table = record { short = inside p l; inside = part_fits I.form.room p l; long = I.long }
-
-  pub in_leads : p < length leads
-  in_leads = lt_of_lt_of_le l I.form.room.leads_long
 
   pub inserting_skip : (packed_bit row p ≡ 1 → ⊥) → Inserting n first rows leads row (p + 1)
   unfolding packed_bit

@@ -1,15 +1,15 @@
 -- Row p as a part of the table, which is how a call is lent it.
 use mathlib.Core.Path.{◌≡◌, ap, ◌∙◌}
 use mathlib.Core.List.{List}
-use Prim.Native.Nat.{ℕ, ◌+◌, ◌-◌, ◌*◌, ◌/◌, ◌%◌, ◌≤◌, ◌<◌}
+use Prim.Native.Nat.{ℕ, ◌+◌, ◌-◌, ◌*◌, ◌/◌, ◌%◌, ◌<◌}
 use native.Mathlib.Omega.{arith}
-use lib.ListN.{length, take, drop}
+use lib.ListN.{take, drop}
 use lib.Seq.{get_or-take, get_or-drop}
 use Rattle.algebra.specs.Bits.{bit_at}
-use Rattle.algebra.specs.PartLaws.{part_wide, length_lent}
+use Rattle.algebra.specs.PartLaws.{part_wide}
 use Rattle.slices.specs.Lengths.{longest}
 use Rattle.basis.specs.Packed.{packed_bit}
-use Rattle.basis.specs.Table.{row_words, row_bit, Room}
+use Rattle.basis.specs.Table.{row_words, row_bit}
 
 -- its length as the code computes it, end minus start
 abbrev pub part_words : ℕ → ℕ
@@ -21,19 +21,8 @@ part_words_lem p = part_wide row_words p
 abbrev pub row_part : List ℕ → ℕ → List ℕ
 row_part rows p = take (part_words p) (drop (p * row_words) rows)
 
-pub part_length : (p : ℕ) (rows : List ℕ) → p * row_words + row_words ≤ length rows → length (row_part rows p) ≡ row_words
-part_length p rows h = length_lent row_words rows p h
-
 pub part_bit : (rows : List ℕ) (p j : ℕ) → j < longest → packed_bit (row_part rows p) j ≡ row_bit rows p j
 unfolding packed_bit row_bit
 part_bit rows p j l =
     ap (λ (x : ℕ). bit_at x (j % 64)) (get_or-take (part_words p) (drop (p * row_words) rows) (j / 64) 0 (omega arith) ∙ get_or-drop (p * row_words) rows
     (j / 64) 0)
-
-module _ {n : ℕ} {rows leads : List ℕ} (R : Room n rows leads) (p : ℕ) (l : p < n) where
-  pub part_fits : p * row_words + row_words ≤ length rows
-  part_fits = omega (arith, R.rows_long)
-
-  -- the row's words hold a bit for each place
-  pub part_reaches : (j : ℕ) → j < n → j < length (row_part rows p) * 64
-  part_reaches j h = omega (arith, part_length p rows part_fits, R.short)

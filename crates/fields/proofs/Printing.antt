@@ -9,7 +9,7 @@ use lib.ListN.{length, set}
 use Rattle.algebra.specs.Parts.{joined}
 use Rattle.fields.specs.Fields.{field_width, line_end, digit_byte, lead_byte, lead_text, number_text, field_text, line_text}
 use Rattle.fields.specs.Reading.{length_lead, length_fields}
-use Rattle.fields.specs.Written.{written, written_none, written_one, written_more, written_front, length-written}
+use Rattle.fields.specs.Written.{written, written_none, written_one, written_more, written_front}
 
 -- ---- bytes from the last on: of those of `text`, i are left, which are to hold `rest`
 
@@ -22,9 +22,6 @@ pub printing_start : (c r at : ℕ) (old : List ℕ) → Printing (lead_text c r
 printing_start c r at old = record { stored = []; whole = append-nil (lead_text c r); so_far = written_none old (at + c) }
 
 module _ {text : List ℕ} {at : ℕ} {old now : List ℕ} {i rest : ℕ} (P : Printing text at old now i rest) where
-  pub printing_length : length now ≡ length old
-  printing_length = ap length P.so_far ∙ length-written old (at + i) P.stored
-
   pub printing_turn : {j b : ℕ} → i ≡ suc j → b ≡ lead_byte rest → Printing text at old (set now (at + j) b) j (rest / 10)
   unfolding lead_text
   printing_turn {j} {b} q e =
@@ -63,9 +60,6 @@ unfolding joined
 joining_start f k at old = record { bound = omega arith; so_far = written_none old at }
 
 module _ {f : ℕ → List ℕ} {k at : ℕ} {old now : List ℕ} {i : ℕ} (J : Joining f k at old now i) where
-  pub joining_length : length now ≡ length old
-  joining_length = ap length J.so_far ∙ length-written old at (joined i f)
-
   pub joining_turn : {p : ℕ} {new : List ℕ} → i < k → p ≡ at + length (joined i f) → new ≡ written now p (f i) → Joining f k at old new (i + 1)
   unfolding joined
   joining_turn l q e =

@@ -40,6 +40,7 @@ pub struct Row {
     pub lamp: Lamp,
 }
 
+// What a fitter calls the gears, by their numbers.
 const GEARS: [&str; 8] = [
     "neutral",
     "first",

@@ -77,9 +77,6 @@ module _ (d : Dash) (n : ℕ) (waiting words : List ℕ) (next : ℕ) where
 -- ---- the word of sender p, by its mark
 
 module _ (mark n : ℕ) (words : List ℕ) (p : ℕ) where
-  pub word_idle : mark ≢ 1 → true ≡ (not (eqb mark 1) || all_bits (part n words p))
-  word_idle ne = ap (λ (b : Bool). not b || all_bits (part n words p)) (sym (ne_eqb mark 1 ne))
-
   pub word_waits : mark ≡ 1 → {r : Bool} → r ≡ all_bits (take (p * n + n - p * n) (drop (p * n) words))
       → r ≡ (not (eqb mark 1) || all_bits (part n words p))
   word_waits is e =

@@ -4,7 +4,6 @@ use Rattle.std.proofs.Common.{sym, ap, ◌∙◌, subst}
 use Rattle.refusals.specs.Outcome.{Outcome, Done, Refused}
 use Rattle.refusals.specs.Ending.{Ended, first_refuses, second_decides}
 use Rattle.refusals.specs.Rules.{Rule, fault, unless_refused}
-use Rattle.signature.specs.Inverses.{Inverted}
 use Rattle.params.specs.declared.Parameters.{Parameters}
 use Rattle.params.specs.Code.{Accepted}
 use Rattle.parity.specs.declared.Code.{Code}
@@ -39,13 +38,6 @@ module _ {c : Parameters} {h : List ℕ} {s : Setting} {others words : Bool} {fo
 
     pub begun_accepted : (others ≡ true) × (words ≡ true) × Accepted c h × Fits c h s
     begun_accepted = setting_accepted c h s others words begun_none
-
-    -- its inverses are those of the signature
-    pub begun_inverted : Inverted c.m h code.inverses.now
-    begun_inverted =
-        let S : OnSent c h s code = (B.passed code e).1 in
-        subst (λ (h : List ℕ). Inverted c.m h code.inverses.now) S.signature
-        (subst (λ (c : Parameters). Inverted c.m code.h.now code.inverses.now) S.parameters code.inverted)
 
     -- what is said of the code that was found is said of the columns of the setting
     pub of_begun : {A : Type 0} (f : Parameters → List ℕ → List ℕ → A) → of_code f code ≡ f c h (columns_of c s)

@@ -10,13 +10,13 @@ use lib.ListN.{length, set, length-set}
 use lib.Seq.{get_or-set_same, get_or-set_other}
 use Rattle.algebra.specs.Field.{Laws}
 use Rattle.algebra.specs.Product.{prod, Units, in_prod, factor_inverse, rest_inverse}
-use Rattle.algebra.specs.Filling.{filled, filled_start, filled_turn, length-filled}
+use Rattle.algebra.specs.Filling.{filled, filled_start, filled_turn}
 use Rattle.field.specs.Gf.{Width, gf}
 use Rattle.field.proofs.GfLaws.{gf_laws}
 use Rattle.slices.specs.Elements.{Elements}
 use Rattle.signature.specs.Tests.{inverse_at, no_zero}
 use Rattle.signature.specs.TestLaws.{no_zero_is}
-use Rattle.signature.specs.Inverses.{Inverted, before}
+use Rattle.signature.specs.Inverses.{before}
 use Rattle.algebra.specs.Lists.{entry_of}
 
 module _ (m : ℕ) (W : Width m) (h : List ℕ) where
@@ -38,9 +38,6 @@ module _ (m : ℕ) (W : Width m) (h : List ℕ) where
   multiplying_start old = record { bound = omega arith; so_far = filled_start (before m h) old; product_is = refl }
 
   module _ {old now : List ℕ} {product i : ℕ} (room : length h ≤ length old) (M : Multiplying old now product i) where
-    pub multiplying_length : length now ≡ length old
-    multiplying_length = ap length M.so_far ∙ length-filled (before m h) i old (omega (arith, M.bound))
-
     pub multiplying_turn : i < length h → {next : ℕ} → next ≡ (gf m).mul product (entry_of h i) → Multiplying old (set now i product) next (i + 1)
     unfolding prod
     multiplying_turn l e =
@@ -127,10 +124,6 @@ module _ (m : ℕ) (W : Width m) (h : List ℕ) where
               ap (entry_of (set now (i - 1) v)) e ∙ get_or-set_same now (i - 1) v 0 (inverting_index l) ∙ here
               ∙ ap (λ (j : ℕ). (gf m).inv (entry_of h j)) (sym e)
           at k a b (no ne) = get_or-set_other now (i - 1) k v 0 ne ∙ I.inverted k (omega arith) b
-
-    pub inverting_end : {now : List ℕ} {rest i : ℕ} → Inverting old now rest i → i ≤ 0 → Inverted m h now
-    inverting_end I z =
-        record { long = omega (arith, room, I.long); are = λ k l. I.inverted k (omega arith) l }
 
 -- an accepted signature's entries have inverses
 pub units : (m : ℕ) (W : Width m) (h : List ℕ) → Elements m h → no_zero h ≡ true → Units (gf m) (gf_laws m W) (length h) (entry_of h)

@@ -1,7 +1,7 @@
 -- Four counts in a buffer, and what a step adds to them.
-use mathlib.Core.Path.{◌≡◌, refl, sym, ap, ap₂, ◌∙◌}
+use mathlib.Core.Path.{◌≡◌, sym, ap, ap₂, ◌∙◌}
 use mathlib.Core.List.{List, [], ◌∷◌}
-use Prim.Native.Nat.{ℕ, suc, ◌+◌}
+use Prim.Native.Nat.{ℕ, ◌+◌}
 use native.Mathlib.Nat.{add-zero}
 use native.Mathlib.Omega.{arith}
 use lib.ListN.{length, set, replicate}
@@ -41,8 +41,3 @@ held_counted = four (Counted 2 Held) (λ a b c d. ap₂ (λ (x y : ℕ). (a + 1)
 pub wrong_counted : (l : List ℕ) → length l ≡ 4 → Counted 3 Wrong l
 unfolding tallied
 wrong_counted = four (Counted 3 Wrong) (λ a b c d. ap₂ (λ (x y : ℕ). (a + 1) ∷ x ∷ y ∷ (d + 1) ∷ []) (sym (add-zero b)) (sym (add-zero c)))
-
--- the counts after the first are not touched by the first
-pub raised_other : (l : List ℕ) (i : ℕ) → entry_of (raised l 0) (suc i) ≡ entry_of l (suc i)
-raised_other [] i = refl
-raised_other (a ∷ l) i = refl

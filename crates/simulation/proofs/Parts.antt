@@ -2,11 +2,8 @@
 use mathlib.Core.Path.{◌≡◌, sym, ap, ap₂, ◌∙◌, subst}
 use mathlib.Core.List.{List}
 use Prim.Native.Nat.{ℕ, ◌+◌, ◌*◌, ◌<◌, ◌≤◌}
-use native.Mathlib.Nat.{le_trans, mul-le-mul_left, mul-le-mul_right}
 use lib.ListN.{length}
 use Rattle.algebra.specs.PartLaws.{part_room}
-use Rattle.slices.specs.Lengths.{longest}
-use Rattle.simulation.specs.Answers.{longest_ride}
 use Rattle.simulation.specs.Lent.{LentSteps}
 use Rattle.simulation.specs.Steps.{Steps, step_count}
 
@@ -17,6 +14,3 @@ step_alike f {g' = g'} {l} {m = m} p q r = ap (λ (x : ℕ). f x l m) p ∙ ap�
 module _ {n : ℕ} {σ : Steps} {counts : List ℕ} (L : LentSteps n σ counts) {i : ℕ} (l : i < step_count σ) where
   pub part_inside : i * n + n ≤ length σ.turned
   part_inside = subst (λ (x : ℕ). i * n + n ≤ x) (sym L.marks_long_lem) (part_room n l)
-
-  pub part_small : n ≤ longest → i * n + n ≤ longest_ride * longest
-  part_small short = le_trans (part_room n l) (le_trans (mul-le-mul_right n L.short) (mul-le-mul_left longest_ride short))

@@ -4,7 +4,7 @@ use mathlib.Core.Logic.{◌≢◌}
 use mathlib.Core.Bool.{Bool, true, false, cond, not, false≢true}
 use mathlib.Core.List.{List}
 use Prim.Native.Nat.{ℕ, suc, ◌+◌, ◌-◌, ◌*◌, ◌/◌, ◌%◌, ◌<◌, ◌≤◌}
-use native.Mathlib.Nat.{le_refl, mod-eq_of_lt}
+use native.Mathlib.Nat.{mod-eq_of_lt}
 use native.Mathlib.Decide.{ℕ_discrete}
 use native.Mathlib.Omega.{arith}
 use lib.ListN.{length, set, length-set}
@@ -25,7 +25,7 @@ use Rattle.algebra.specs.Xor.{◌⊕◌}
 use Rattle.slices.specs.Bits.{Bits}
 use Rattle.slices.specs.BitLaws.{bits_anywhere}
 use Rattle.basis.specs.Packed.{packed_bit}
-use Rattle.basis.specs.Table.{row_bit, lead_at, free_at, Form, Completed, placed_at}
+use Rattle.basis.specs.Table.{row_bit, lead_at, free_at, Form, placed_at}
 
 -- ---- the test of the code, as what the specification asks of a place
 
@@ -156,22 +156,9 @@ pub record Completing (rows leads old now : List ℕ) (p : ℕ) : Type 0 where
   pub forced : (q : ℕ) → p ≤ q → q < length old → lead_at leads q ≡ true → entry_of now q ≡ rest gf2 (length old) (row_bit rows q) (entry_of now) q
   pub kept : (q : ℕ) → q < length old → lead_at leads q ≡ false → entry_of now q ≡ entry_of old q
 
-pub complete_start : (rows leads old : List ℕ) → Bits old → Completing rows leads old old (length old)
-complete_start rows leads old h =
-    record { bound = le_refl (length old); long = refl; bits = h; forced = λ q a l. absurd (omega arith); kept = λ q l t. refl }
-
-pub complete_end : {rows leads old now : List ℕ} {p : ℕ} → Completing rows leads old now p → p ≤ 0 → Completed (length old) rows leads old now
-complete_end C z = record { bits = C.bits; forced = λ q l t. C.forced q (omega arith) l t; kept = C.kept }
-
 module _ {rows leads old now : List ℕ} {p : ℕ} (C : Completing rows leads old now p) (l : 0 < p) where
   pub complete_index : p - 1 < length now
   complete_index = omega (arith, C.bound, C.long)
-
-  -- what `forced` asks of the word so far
-  pub complete_asks : Form (length old) rows leads
-      → Form (length now) rows leads × (p - 1 < length now) × Bits now
-  complete_asks F =
-      (subst (λ (n : ℕ). Form n rows leads) (sym C.long) F, complete_index, λ j h. C.bits j (subst (λ (n : ℕ). j < n) C.long h))
 
   pub complete_free : entry_of leads (p - 1) ≢ 1 → Completing rows leads old now (p - 1)
   unfolding lead_at
