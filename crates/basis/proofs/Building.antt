@@ -1,18 +1,17 @@
 -- A packed row that is built bit by bit: the places passed hold what they should, and the others nothing.
 use mathlib.Core.Path.{◌≡◌, sym, ap, ◌∙◌, subst}
 use mathlib.Core.List.{List}
-use Prim.Native.Nat.{ℕ, ◌+◌, ◌*◌, ◌/◌, ◌%◌, ◌≤◌, ◌<◌}
+use Prim.Native.Nat.{ℕ, ◌+◌, ◌*◌, ◌≤◌, ◌<◌}
 use native.Mathlib.Nat.{not-suc-le-zero, le_refl}
 use native.Mathlib.Omega.{arith}
 use borrow.Author.Count.{below_more}
-use lib.ListN.{length, replicate}
+use lib.ListN.{length, get_or, replicate}
 use Rattle.std.proofs.lemmas.List.{length-replicate, get_or-replicate}
-use Rattle.algebra.specs.Bits.{bit_at}
-use Rattle.algebra.specs.BitLaws.{bit_at-zero}
-use Rattle.algebra.specs.Lists.{entry_of}
+use Rattle.algebra.specs.Tabulate.{tabulate}
+use Rattle.algebra.specs.TabulateLaws.{tabulate-get_or, tabulate_cong}
 use Rattle.algebra.specs.Xor.{◌⊕◌}
 use Rattle.algebra.specs.XorLaws.{zero-⊕}
-use Rattle.basis.specs.Packed.{packed_bit, Packs, Marked}
+use Rattle.basis.specs.Packed.{packed_bit, Packs, Cleared, cleared, Marked}
 
 pub record Building (f : ℕ → ℕ) (n : ℕ) (row : List ℕ) (j : ℕ) : Type 0 where
   pub room : n ≤ length row * 64
@@ -20,15 +19,23 @@ pub record Building (f : ℕ → ℕ) (n : ℕ) (row : List ℕ) (j : ℕ) : Typ
   pub done : Packs j f row
   pub empty : (q : ℕ) → j ≤ q → q < n → packed_bit row q ≡ 0
 
-pub building_start : (f : ℕ → ℕ) (n : ℕ) (words : ℕ) {row : List ℕ} → n ≤ words * 64 → row ≡ replicate words 0 → Building f n row 0
-unfolding packed_bit
-building_start f n words {row} h e =
+zeros : (n : ℕ) → replicate {A = ℕ} n 0 ≡ tabulate n (λ (i : ℕ). 0)
+zeros n =
+    sym (tabulate-get_or (replicate n 0) 0)
+    ∙ ap (λ (k : ℕ). tabulate k (λ i. get_or (replicate n 0) i 0)) (length-replicate n 0)
+    ∙ tabulate_cong n (λ i l. get_or-replicate n i 0 0 l)
+
+-- a row that is filled with zeros
+pub filled : (old : List ℕ) {row : List ℕ} → row ≡ replicate (length old) 0 → Cleared old row
+filled old e = subst (Cleared old) (sym (e ∙ zeros (length old))) (cleared old)
+
+pub building_start : (f : ℕ → ℕ) (n : ℕ) {old row : List ℕ} → n ≤ length old * 64 → Cleared old row → Building f n row 0
+building_start f n h c =
     record {
-      room = subst (λ (l : List ℕ). n ≤ length l * 64) (sym e) (subst (λ (k : ℕ). n ≤ k * 64) (sym (length-replicate {A = ℕ} words 0)) h);
+      room = subst (λ (k : ℕ). n ≤ k * 64) (sym c.long) h;
       bound = omega arith;
       done = λ q l. absurd (not-suc-le-zero l);
-      empty = λ q a l. ap (λ (l : List ℕ). bit_at (entry_of l (q / 64)) (q % 64)) e
-          ∙ ap (λ (x : ℕ). bit_at x (q % 64)) (get_or-replicate words (q / 64) 0 0 (omega arith)) ∙ bit_at-zero (q % 64);
+      empty = λ q a l. c.empty q (omega arith);
     }
 
 module _ {f : ℕ → ℕ} {n : ℕ} {row : List ℕ} {j : ℕ} (B : Building f n row j) where

@@ -3,7 +3,7 @@ use Rattle.std.specs.Prelude.{◌≡◌, ◌≢◌, List, ℕ, ◌*◌, ◌/◌,
 use Rattle.std.proofs.Common.{sym, ap, ◌∙◌, arith, length-set, get_or-set_same, get_or-set_other}
 use Rattle.std.proofs.Math.Decide.{ℕ_discrete}
 use Rattle.algebra.specs.Bits.{bit_at}
-use Rattle.algebra.specs.BitLaws.{bit_at-⊕}
+use Rattle.algebra.specs.BitLaws.{bit_at-⊕, bit_at-zero}
 use Rattle.algebra.specs.FromBits.{shifted_at, shifted_other}
 use Rattle.algebra.specs.Tabulate.{tabulate}
 use Rattle.algebra.specs.TabulateLaws.{length-tabulate, get_d_tabulate}
@@ -23,6 +23,10 @@ Packs n f row = (j : ℕ) → j < n → packed_bit row j ≡ f j
 pub record Added (from old new : List ℕ) : Type 0 where
   pub long : length new ≡ length old
   pub sum : (p : ℕ) → p < length old * 64 → packed_bit new p ≡ packed_bit old p ⊕ packed_bit from p
+
+pub record Cleared (old new : List ℕ) : Type 0 where
+  pub long : length new ≡ length old
+  pub empty : (p : ℕ) → p < length old * 64 → packed_bit new p ≡ 0
 
 -- a bit was added at place p
 pub record Marked (old : List ℕ) (p b : ℕ) (new : List ℕ) : Type 0 where
@@ -70,4 +74,12 @@ added from old =
           λ p l.
           ap (λ (x : ℕ). bit_at x (p % 64)) (get_d_tabulate (length old) (λ k. entry_of old k ⊕ entry_of from k) (p / 64) 0 (omega arith))
           ∙ bit_at-⊕ (entry_of old (p / 64)) (entry_of from (p / 64)) (p % 64);
+    }
+
+pub cleared : (old : List ℕ) → Cleared old (tabulate (length old) (λ k. 0))
+unfolding packed_bit
+cleared old =
+    record {
+      long = length-tabulate (length old) (λ k. 0);
+      empty = λ p l. ap (λ (x : ℕ). bit_at x (p % 64)) (get_d_tabulate (length old) (λ k. 0) (p / 64) 0 (omega arith)) ∙ bit_at-zero (p % 64);
     }

@@ -6,7 +6,7 @@ ghost use Rattle.algebra.specs.Xor.{◌⊕◌};
 ghost use Rattle.field.specs.Gf.{Width};
 ghost use Rattle.slices.specs.Lengths.{longest};
 ghost use Rattle.basis.specs.Packed.{Packs};
-ghost use Rattle.basis.specs.Table.{row_words, Form, RowFits, Reduced, Stored, Inserted, parity_bit, ParityBasis, RowReaches, Reaches};
+ghost use Rattle.basis.specs.Table.{row_words, Room, Form, RowFits, Reduced, Stored, Inserted, parity_bit, ParityBasis, RowReaches, Reaches};
 
 use crate::packed::ROW;
 use crate::{Column, packed};
@@ -16,7 +16,8 @@ use slices::LONGEST;
 // The words of a table that has a row for each place.
 const TABLE: usize = LONGEST * ROW;
 
-// A basis: row p, which leads at place p, stands in `rows` from p * ROW on where `leads` has 1 at p. That it is one of n places (`Form`) stands in the
+// The room that a call has for a basis: row p, which leads at place p, stands in `rows` from p * ROW on where `leads` has 1 at p. What works on a
+// basis is lent the two fields, as slices that need only be long enough for its n places (`Room`). That it is one of n places (`Form`) stands in the
 // contracts and not in the type: each would have to say in its place that its word or its row is as long as the n that the type would hold. The rows
 // are one list and the leads 0 and 1, as the definitions read them; the leads go to the callers without the rows.
 #[derive(Drop)]
@@ -26,7 +27,7 @@ pub struct Basis {
 }
 
 impl Basis {
-    // A basis without a row.
+    // Room in which no row leads.
     pub fn new() -> Basis
         ensures { (result.rows ≡ replicate (longest * row_words) 0) × (result.leads ≡ replicate longest 0) }
     {
@@ -68,40 +69,47 @@ fn reduce(p: usize, rows: &[u64], row: &mut [u64])
 }
 
 // Makes the row the one that leads at place p, where none does yet.
-fn store(p: usize, row: &[u64], basis: &mut Basis)
-    requires { RowFits p basis.old.rows row.now }
-    ensures { Stored p row.now basis.old.rows basis.old.leads basis.new.rows basis.new.leads }
+fn store(p: usize, row: &[u64], rows: &mut [u64], leads: &mut [u8])
+    requires { RowFits p rows.old row.now × (p < length leads.old) }
+    ensures { Stored p row.now rows.old leads.old rows.new leads.new }
 {
     let start = p * ROW;
     let end = start + ROW;
-    basis.rows[start..end].copy_from_slice(row);
-    basis.leads[p] = 1;
+    rows[start..end].copy_from_slice(row);
+    leads[p] = 1;
 }
 
 // Brings a row in, which is used up, and says how many rows more the basis has, none or one, as a number that is added to the rank.
-fn insert(n: usize, row: &mut [u64], basis: &mut Basis) -> usize
-    requires { Form n basis.old.rows basis.old.leads × (length row.old ≡ row_words) }
-    ensures { Inserted n row.old basis.old.rows basis.old.leads result basis.new.rows basis.new.leads }
+fn insert(n: usize, row: &mut [u64], rows: &mut [u64], leads: &mut [u8]) -> usize
+    requires { Form n rows.old leads.old × (length row.old ≡ row_words) }
+    ensures { Inserted n row.old rows.old leads.old result rows.new leads.new }
 {
     // By index: p is a place of the row, of the rows and of the leads.
     for p in 0..n {
         if packed::bit(row, p) == 1 {
-            if basis.leads[p] != 1 {
-                store(p, row, basis);
+            if leads[p] != 1 {
+                store(p, row, rows, leads);
                 return 1;
             }
-            reduce(p, &basis.rows, row);
+            reduce(p, rows, row);
         }
     }
     0
 }
 
 // The basis of all rows of the matrix, in the caller's room, so that one table is on the stack, and the number of its rows.
-pub fn parity_basis(m: u32, t: usize, h: &[Elem], cols: &[Column], basis: &mut Basis) -> usize
-    requires { Width m × (t ≤ longest) × (length cols.now ≤ longest) × Reaches t h.now cols.now }
-    ensures { ParityBasis m t h.now cols.now basis.new.rows basis.new.leads result }
+pub fn parity_basis(
+    m: u32,
+    t: usize,
+    h: &[Elem],
+    cols: &[Column],
+    rows: &mut [u64],
+    leads: &mut [u8],
+) -> usize
+    requires { Width m × (t ≤ longest) × Room (length cols.now) rows.old leads.old × Reaches t h.now cols.now }
+    ensures { ParityBasis m t h.now cols.now rows.new leads.new result }
 {
-    basis.leads.fill(0);
+    leads.fill(0);
     let width = m as usize;
     let mut row: [u64; ROW] = [0; ROW];
     let mut rank = 0;
@@ -112,7 +120,7 @@ pub fn parity_basis(m: u32, t: usize, h: &[Elem], cols: &[Column], basis: &mut B
             break;
         }
         parity_row(h, cols, k / width, (k % width) as u64, &mut row);
-        rank += insert(cols.len(), &mut row, basis);
+        rank += insert(cols.len(), &mut row, rows, leads);
     }
     rank
 }

@@ -42,8 +42,7 @@ pub fn inverse(m: u32, a: &[Elem], out: &mut [Elem]) -> Result<(), Refusal>
     if zero {
         return Err(Refusal(Rule::Singular));
     }
-    out.copy_from_slice(a);
-    dyadic::divide(m, field::internal::product(m, sum, sum), out);
+    dyadic::divide(m, a, field::internal::product(m, sum, sum), out);
     Ok(())
 }
 

@@ -39,6 +39,11 @@ module _ (c : Parameters) (h : List ℕ) (s : Choice) (others full : Bool) (colu
       refl_zero : ◌≡◌ {A = ℕ} 0 0
       refl_zero = omega arith
 
+-- a list that is long enough for any word has n entries at its front
+pub front_long : {n : ℕ} (columns : List ℕ) → n ≤ longest → longest ≤ length columns → n ≡ length (take n columns)
+front_long {n} columns short long =
+    let fits : n ≤ length columns = omega arith in sym (length-take-le n columns fits)
+
 -- n columns written at the front of the room, which is longer
 pub written_front : (f : ℕ → List ℕ) {n : ℕ} (old : List ℕ) {block : List ℕ} → length (f n) ≡ n → n ≤ length old
     → block ≡ f (length (take n old)) → take n (block ++ drop n old) ≡ f n

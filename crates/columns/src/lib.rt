@@ -44,7 +44,8 @@ pub struct Lengths {
     pub places: bool,
 }
 
-// Room for what the beginning of a call finds: the inverses of the signature's entries, and the columns.
+// Room for what the beginning of a call finds: the inverses of the signature's entries, and the columns. The functions that begin a call are lent it by
+// its two fields.
 #[derive(Drop)]
 pub struct Room {
     pub inverses: [Elem; LONGEST],
@@ -90,21 +91,23 @@ pub fn is_all_places(c: Parameters, choice: Choice<'_>, long: usize) -> bool
     }
 }
 
-// Begins a call: the code is tested, and what is lent, and the chosen columns are numbered, at the front of the room for columns; gives how many they
-// are. Where the call is not refused the inverses in the room are those of the signature's entries.
+// Begins a call: the code is tested, and what is lent, and the chosen columns are numbered, at the front of `columns`; gives how many they are. Where
+// the call is not refused `inverses` begins with the inverses of the signature's entries. Both are slices, of a `Room` or of any that are long enough.
 pub fn choose_columns(
     c: Parameters,
     h: &[Elem],
     choice: Choice<'_>,
     lent: Lengths,
-    room: &mut Room,
+    inverses: &mut [Elem],
+    columns: &mut [Column],
 ) -> Result<usize, Refusal>
-    ensures listed { Listed c h.now (choice_of choice.entry) lent.others lent.places room.new.columns result }
-    ensures by_index { (k : ℕ) → result ≡ Count k → Inverted c.m h.now room.new.inverses }
+    requires { (longest ≤ length inverses.old) × (longest ≤ length columns.old) }
+    ensures listed { Listed c h.now (choice_of choice.entry) lent.others lent.places columns.new result }
+    ensures by_index { (k : ℕ) → result ≡ Count k → Inverted c.m h.now inverses.new }
 {
     match choice {
-        Choice::WholeCode => whole_columns(c, h, lent, room),
-        Choice::Selection(s) => selected_columns(c, h, s, lent, room),
+        Choice::WholeCode => whole_columns(c, h, lent, inverses, columns),
+        Choice::Selection(s) => selected_columns(c, h, s, lent, inverses, columns),
     }
 }
 
@@ -113,14 +116,16 @@ fn whole_columns(
     c: Parameters,
     h: &[Elem],
     lent: Lengths,
-    room: &mut Room,
+    inverses: &mut [Elem],
+    columns: &mut [Column],
 ) -> Result<usize, Refusal>
-    ensures listed { Listed c h.now whole_code lent.others lent.places room.new.columns result }
-    ensures by_index { (k : ℕ) → result ≡ Count k → Inverted c.m h.now room.new.inverses }
+    requires { (longest ≤ length inverses.old) × (longest ≤ length columns.old) }
+    ensures listed { Listed c h.now whole_code lent.others lent.places columns.new result }
+    ensures by_index { (k : ℕ) → result ≡ Count k → Inverted c.m h.now inverses.new }
 {
-    check_code(c, h, lent.others & lent.places, &mut room.inverses)?;
+    check_code(c, h, lent.others & lent.places, inverses)?;
     let n = c.n as usize;
-    number_columns(&mut room.columns[..n]);
+    number_columns(&mut columns[..n]);
     Ok(n)
 }
 
@@ -130,16 +135,18 @@ fn selected_columns(
     h: &[Elem],
     s: Selection<'_>,
     lent: Lengths,
-    room: &mut Room,
+    inverses: &mut [Elem],
+    columns: &mut [Column],
 ) -> Result<usize, Refusal>
-    ensures listed { Listed c h.now (selection s.entry.blocks.now s.entry.shifts.now) lent.others lent.places room.new.columns result }
-    ensures by_index { (k : ℕ) → result ≡ Count k → Inverted c.m h.now room.new.inverses }
+    requires { (longest ≤ length inverses.old) × (longest ≤ length columns.old) }
+    ensures listed { Listed c h.now (selection s.entry.blocks.now s.entry.shifts.now) lent.others lent.places columns.new result }
+    ensures by_index { (k : ℕ) → result ≡ Count k → Inverted c.m h.now inverses.new }
 {
-    check_code(c, h, lent.others, &mut room.inverses)?;
+    check_code(c, h, lent.others, inverses)?;
     check_selection(c, s, lent.places)?;
     let t = c.t as usize;
     let n = s.blocks.len() * t;
-    select_columns(t, s, &mut room.columns[..n]);
+    select_columns(t, s, &mut columns[..n]);
     Ok(n)
 }
 

@@ -4,3 +4,4 @@ pub mod Inverse
 pub mod Laws
 pub mod Stages
 pub mod Sums
+pub mod Quotients

@@ -40,8 +40,19 @@ pub fn total(a: &[Elem]) -> Elem
     a.iter().fold(0, |sum, x| sum ^ *x)
 }
 
-// Divides every entry by c.
-pub fn divide(m: u32, c: Elem, block: &mut [Elem])
+// Every entry divided by c, into another buffer. In one pass: a copy divided in its place would be a call of memmove (`copy` of slices).
+pub fn divide(m: u32, a: &[Elem], c: Elem, out: &mut [Elem])
+    requires { Width m × Elements m a.now × (c < 2 ^ m) × (length out.old ≡ length a.now) }
+    ensures { out.new ≡ quotient (gf m) a.now c }
+{
+    let factor = field::internal::inverse(m, c);
+    for (i, entry) in out.iter_mut().enumerate() {
+        *entry = field::internal::product(m, a[i], factor);
+    }
+}
+
+// Divides every entry of a block by c, in its place.
+pub fn divide_in_place(m: u32, c: Elem, block: &mut [Elem])
     requires { Width m × (c < 2 ^ m) × Elements m block.old }
     ensures { block.new ≡ quotient (gf m) block.old c }
 {

@@ -89,7 +89,8 @@ fn check_essence(m: u32, h: &[Elem], k: usize, inverses: &mut [Elem]) -> Result<
     check_signature(m, h, inverses)
 }
 
-// The essence from the inverses of the entries, as many values as the buffer holds.
+// The essence from the inverses of the entries, as many values as the buffer holds: two or more, by the lemma that is named.
+#[tactic(auto, using(crate::proofs::ShapeLaws::value_count_is))]
 fn store_essence(inverses: &[Elem], out: &mut [Elem])
     requires { (is_value_count (length out.old) ≡ true) × (2 ^ (length out.old - 1) ≤ length inverses.now) }
     ensures { out.new ≡ essence_from (length out.old - 1) (entry_of inverses.now) }

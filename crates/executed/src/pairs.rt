@@ -10,7 +10,7 @@ use std::io;
 fn encoded(rt: &impl Print, pair: Row) -> io::Result<[u8; 16]> {
     let mut message: [u8; 6] = [0; 6];
     let mut word: [u8; 16] = [0; 16];
-    place_row(pair, &mut message);
+    place_row(pair.gear, pair.lamp.into(), &mut message);
     let s = Setting::whole_code(&NOTHING);
     if let Err(refusal) = words::encode(toy(), &TOY, &s, &message, &mut word) {
         println!(rt; " {refusal}")?;

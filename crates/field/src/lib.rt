@@ -53,7 +53,10 @@ fn check_element(m: u32, a: u32) -> Result<(), Refusal>
 fn check_pair(m: u32, a: u32, b: u32) -> Result<(), Refusal>
     ensures { result ≡ tested (pair_fault m a b) }
 {
-    check_element(m, a)?;
+    // Returned by hand and not by `?`, so that a must-fail edit can change what is returned here alone.
+    if let Err(refusal) = check_element(m, a) {
+        return Err(refusal);
+    }
     if !internal::is_element(m, b) {
         return Err(Refusal(Rule::Range));
     }

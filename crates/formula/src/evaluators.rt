@@ -16,7 +16,7 @@ ghost use Rattle.formula.specs.Evaluated.{sums, products, terms, Held, Ends, Fin
 use crate::values::{self, Letters};
 use field::Elem;
 use refusals::{Refusal, Rule};
-use slices::LONGEST;
+use slices::{LONGEST, copy};
 
 // A place in the text, and whether every inverse that was asked for before it exists.
 #[derive(Clone, Copy)]
@@ -177,7 +177,7 @@ fn term(
     let byte = byte_at(text, from.at);
     if byte != b'(' {
         let block = letters.lent(byte)?;
-        value.copy_from_slice(block);
+        copy(block, value);
         return Some(marks(letters.m, text, after(from), value));
     }
     if brackets == 0 {

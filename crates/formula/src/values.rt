@@ -74,7 +74,7 @@ pub fn invert(m: u32, value: &mut [Elem]) -> bool
     ensures value_after { value.new ≡ block_inverse (gf m) value.old }
 {
     let sum = dyadic::total(value);
-    dyadic::divide(m, product(m, sum, sum), value);
+    dyadic::divide_in_place(m, product(m, sum, sum), value);
     sum != 0
 }
 

@@ -99,12 +99,11 @@ impl Row {
 }
 
 // What a row's message holds at a place.
-fn row_bit(row: Row, place: usize) -> u8
-    ensures { result ≡ row_bit row.gear (lamp_number row.lamp) place }
+fn row_bit(gear: u32, lamp: u32, place: usize) -> u8
+    ensures { result ≡ row_bit gear lamp place }
 {
-    let lamp = u32::from(row.lamp);
     if place < GEAR_BITS {
-        return ((row.gear >> place as u32) % 2) as u8;
+        return ((gear >> place as u32) % 2) as u8;
     }
     if place < ROW_BITS {
         return ((lamp >> (place - GEAR_BITS) as u32) % 2) as u8;
@@ -112,12 +111,12 @@ fn row_bit(row: Row, place: usize) -> u8
     0
 }
 
-// The message of a row, as long as the buffer is.
-pub fn place_row(row: Row, message: &mut [u8])
-    ensures { message.new ≡ row_message (length message.old) row.gear (lamp_number row.lamp) }
+// The message of a gear and a lamp, as long as the buffer is: of any two numbers, so that pairs that are no allowed row have one too.
+pub fn place_row(gear: u32, lamp: u32, message: &mut [u8])
+    ensures { message.new ≡ row_message (length message.old) gear lamp }
 {
     for (j, bit) in message.iter_mut().enumerate() {
-        *bit = row_bit(row, j);
+        *bit = row_bit(gear, lamp, j);
     }
 }
 

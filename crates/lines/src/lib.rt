@@ -2,12 +2,15 @@
 #![tactic(auto)]
 
 ghost use Rattle.std.specs.Prelude.{◌≡◌, ◌+◌, ◌*◌, ◌^◌, ◌≤◌, ◌<◌, length};
+ghost use Rattle.algebra.specs.Lists.{entry_of};
 ghost use Rattle.algebra.specs.Parts.{joined};
 ghost use Rattle.algebra.specs.Tabulate.{tabulate};
+ghost use Rattle.field.specs.Gf.{gf};
 ghost use Rattle.field.specs.Words.{widest};
 ghost use Rattle.slices.specs.Lengths.{longest};
 ghost use Rattle.params.specs.Code.{Accepted};
 ghost use Rattle.signature.specs.Inverses.{Inverted, added};
+ghost use Rattle.signature.specs.Signature.{support_at};
 ghost use Rattle.parity.specs.Columns.{roles_of, message_length};
 ghost use Rattle.parity.specs.Word.{whole};
 ghost use Rattle.fields.specs.Fields.{line_length};
@@ -81,14 +84,24 @@ fn put_lines(c: Parameters, k: u32, columns: &Columns<'_>, out: &mut [u8])
     put_columns(columns, next, out);
 }
 
+// The support of a code, a point for each of its n columns.
+fn code_support(code: &Code<'_>, support: &mut [Elem])
+    requires { length support.old ≡ code.now.c.n }
+    ensures { support.new
+        ≡ tabulate code.now.c.n
+        (support_at (gf code.now.c.m) code.now.c.omega (entry_of code.now.h.now)) }
+{
+    points::support(code, support);
+}
+
 // The listing of a code on all its columns at the front of `out`. `support` and `roles` have n entries to work with.
 fn compute_lines(code: &Code<'_>, support: &mut [Elem], roles: &mut [u8], out: &mut [u8])
     requires whole_code { (code.now.cols.now ≡ whole code.now.c.n) × (listing_length code.now.c.n ≤ length out.old) }
     requires support_len { (length support.old ≡ code.now.c.n) × (length roles.old ≡ code.now.c.n) }
     ensures { out.new ≡ over (listing_text code.now.c code.now.h.now) out.old }
 {
-    points::support(code, support);
-    let k = words::internal::roles(code, roles);
+    code_support(code, support);
+    let k = words::internal::roles(code.c, code.h, code.cols, roles);
     let columns = Columns {
         h: code.h,
         support,

@@ -2,8 +2,9 @@
 use mathlib.Core.Path.{◌≡◌, sym, ap, ◌∙◌, subst}
 use mathlib.Core.Bool.{Bool, true, false, cond}
 use mathlib.Core.List.{List}
-use Prim.Native.Nat.{ℕ, ◌-◌, ◌≤◌, ◌<◌}
+use Prim.Native.Nat.{ℕ, ◌-◌, ◌*◌, ◌≤◌, ◌<◌}
 use native.Mathlib.Nat.{le_of_eq}
+use native.Mathlib.Omega.{arith}
 use borrow.Author.Tests.{not-true, eqb-true}
 use lib.ListN.{length}
 use lib.Seq.{take_all}
@@ -18,17 +19,26 @@ use Rattle.algebra.specs.TabulateLaws.{get_d_tabulate}
 use Rattle.field.specs.Gf.{Width}
 use Rattle.refusals.specs.Rules.{fault}
 use Rattle.refusals.specs.RuleLaws.{hold}
+use Rattle.slices.specs.Lengths.{longest}
 use Rattle.slices.specs.Bits.{Bits, all_bits}
 use Rattle.slices.specs.BitLaws.{bits_are}
-use Rattle.basis.specs.Table.{row_bit, lead_at, free_at, placed_at, parity_bit, ParityBasis, Carried}
+use Rattle.basis.specs.Table.{row_words, row_bit, lead_at, free_at, placed_at, parity_bit, Room, ParityBasis, Carried}
 use Rattle.params.specs.declared.Parameters.{Parameters}
 use Rattle.messages.specs.MessageRules.{message_rules}
 use Rattle.parity.specs.Columns.{is_message_column, dimension, encoding_of}
 use Rattle.messages.specs.CodeBasis.{MessageColumns, CodeBasis, message_is, counted}
 use Rattle.parity.specs.Encoding.{e, e_in, code_checks, encoding_only}
 use Rattle.parity.specs.Parity.{bit_row, bit_rows, entry_signature}
-use Rattle.parity.specs.Selected.{OnColumns}
+use Rattle.parity.specs.Selected.{OnColumns, columns_short}
 use Rattle.parity.specs.Systematic.{Basis, sum_is_free}
+
+-- room in the arrays of the calls
+pub room : {c : Parameters} {h cols : List ℕ} → OnColumns c h cols → (rows leads : List ℕ) → longest * row_words ≤ length rows
+    → length cols ≤ length leads
+    → Room (length cols) rows leads
+room O rows leads a b =
+    let short = columns_short O in
+    record { short = short; rows_long = omega arith; leads_long = b }
 
 module _ {c : Parameters} {h cols rows leads : List ℕ} {rank : ℕ} (O : OnColumns c h cols)
     (P : ParityBasis c.m c.t h cols rows leads rank) where

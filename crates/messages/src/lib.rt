@@ -2,36 +2,46 @@
 // and what a word that carries a message holds elsewhere, and the test of a message.
 #![tactic(auto)]
 
-ghost use Rattle.std.specs.Prelude.{◌≡◌};
+ghost use Rattle.std.specs.Prelude.{◌≡◌, ◌≤◌, length};
 ghost use Rattle.refusals.specs.Rules.{fault};
 ghost use Rattle.refusals.specs.Outcome.{tested};
 ghost use Rattle.slices.specs.Bits.{all_bits};
-ghost use Rattle.parity.specs.OfCode.{OfCode};
+ghost use Rattle.basis.specs.Table.{Room};
+ghost use Rattle.parity.specs.Selected.{OnColumns};
 ghost use Rattle.messages.specs.CodeBasis.{MessageColumns, CodeBasis};
 ghost use Rattle.messages.specs.MessageRules.{message_rules};
 
-use basis::elimination::{Basis, parity_basis};
-use parity::Code;
+use basis::Column;
+use basis::elimination::parity_basis;
+use basis::packed::ROW;
+use field::Elem;
+use params::Parameters;
 use refusals::{Refusal, Rule};
 use slices::{LONGEST, all_bits};
 
-// The basis of the code, and k, the number of message columns.
-pub fn code_basis(code: &Code<'_>, basis: &mut Basis) -> usize
-    ensures { OfCode CodeBasis code.now basis.new.rows basis.new.leads result }
+// The basis of the code in `rows` and `leads`, and k, the number of message columns.
+pub fn code_basis(
+    c: Parameters,
+    h: &[Elem],
+    cols: &[Column],
+    rows: &mut [u64],
+    leads: &mut [u8],
+) -> usize
+    requires { OnColumns c h.now cols.now × Room (length cols.now) rows.old leads.old }
+    ensures { CodeBasis c h.now cols.now rows.new leads.new result }
 {
-    let t = code.c.t as usize;
-    code.cols.len() - parity_basis(code.c.m, t, code.h, code.cols, basis)
+    let t = c.t as usize;
+    cols.len() - parity_basis(c.m, t, h, cols, rows, leads)
 }
 
 // The message columns, which are the free places of `leads`, and k. The rows of the basis are off the stack afterwards.
 #[inline(never)]
-pub fn message_columns(code: &Code<'_>, leads: &mut [u8; LONGEST]) -> usize
-    ensures { OfCode MessageColumns code.now leads.new result }
+pub fn message_columns(c: Parameters, h: &[Elem], cols: &[Column], leads: &mut [u8]) -> usize
+    requires { OnColumns c h.now cols.now × (length cols.now ≤ length leads.old) }
+    ensures { MessageColumns c h.now cols.now leads.new result }
 {
-    let mut basis = Basis::new();
-    let k = code_basis(code, &mut basis);
-    leads.copy_from_slice(&basis.leads);
-    k
+    let mut rows: [u64; LONGEST * ROW] = [0; LONGEST * ROW];
+    code_basis(c, h, cols, &mut rows, leads)
 }
 
 // Whether a message has the length k that is due, and `read`, where it is to hold bits, does.

@@ -25,7 +25,8 @@ pub fn is_code_word(code: &Code<'_>, word: &[u8]) -> bool
     requires { IsBits (length code.now.cols.now) word.now }
     ensures { result ≡ of_code is_code_word code.now word.now }
 {
-    (0..code.c.t as usize).all(|i| syndromes::syndrome_at(code, word, i) == 0)
+    let (m, h, cols) = (code.c.m, code.h, code.cols);
+    (0..code.c.t as usize).all(|i| syndromes::syndrome_at(m, h, cols, word, i) == 0)
 }
 
 // The word received with the bits turned at the places whose support is a root of the polynomial, and the number of these places.
@@ -76,7 +77,7 @@ fn find_candidate(
 {
     points::roots(code, roots);
     points::support(code, support);
-    syndromes::syndrome(code, received, syndrome);
+    syndromes::syndrome(code.c.m, code.h, code.cols, received, syndrome);
     let polynomial = locator::locate(code.c.m, roots, syndrome);
     turn_roots(&polynomial, support, code.cols, received, word)
 }

@@ -14,6 +14,8 @@ use Rattle.algebra.specs.SumLaws.{sum_cong, in_sum}
 use Rattle.algebra.specs.Xor.{◌⊕◌}
 use Rattle.field.specs.Gf.{Width, gf}
 use Rattle.field.proofs.GfLaws.{gf_laws}
+use Rattle.slices.specs.Bits.{Bits}
+use Rattle.slices.specs.Elements.{Elements}
 use Rattle.basis.specs.Table.{Reaches}
 use Rattle.params.specs.declared.Parameters.{Parameters}
 use Rattle.params.proofs.Accepted.{accepted_pair, index_below}
@@ -24,6 +26,13 @@ use Rattle.parity.specs.Word.{parity_at, held, syndrome_at}
 -- row i of the syndrome from the signature alone: the sum of h_(i⊕cols_j) over the places j that hold 1
 unfoldable pub signature_sum : ℕ → List ℕ → List ℕ → List ℕ → ℕ → ℕ
 signature_sum m h cols word i = sum (gf m) (length cols) (λ j. held (entry_of word j) (entry_of h (i ⊕ entry_of cols j)))
+
+-- a word of bits, a place for each column, and a signature of elements
+pub record Summed (m : ℕ) (h cols word : List ℕ) : Type 0 where
+  pub width : Width m
+  pub long : length word ≡ length cols
+  pub bits : Bits word
+  pub elements : Elements m h
 
 pub held_in : (m w x : ℕ) → x < 2 ^ m → held w x < 2 ^ m
 unfolding held

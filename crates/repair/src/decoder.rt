@@ -7,7 +7,7 @@ use crate::Recovery;
 use nearest::{candidate, is_code_word};
 use parity::Code;
 use refusals::{Refusal, Rule};
-use slices::{LONGEST, all_bits};
+use slices::{LONGEST, all_bits, copy};
 
 // Repair into `word`, which is used as room where there is none: 8, 10, or the number of places turned. A code word needs no locator. What the pass
 // finds is the repair if few places were turned and it is a code word, and else there is none.
@@ -19,7 +19,7 @@ pub fn decode(code: &Code<'_>, received: &[u8], word: &mut [u8]) -> Recovery
         return Recovery::Refused(Refusal(Rule::Bit));
     }
     if is_code_word(code, received) {
-        word.copy_from_slice(received);
+        copy(received, word);
         return Recovery::Repaired(0);
     }
     let turned = candidate(code, received, word) as u32;

@@ -5,12 +5,11 @@ ghost use Rattle.std.specs.Prelude.{◌≡◌, ◌≤◌, length};
 ghost use Rattle.basis.specs.Table.{free_count, Form, Carried};
 ghost use Rattle.messages.specs.CodeBasis.{MessageColumns};
 ghost use Rattle.parity.specs.OfCode.{OfCode};
-ghost use Rattle.gears.specs.Rows.{row_bits, row_message, lamp_number};
+ghost use Rattle.gears.specs.Rows.{row_bits, row_message};
 ghost use Rattle.rows.specs.Parts.{ReadInto};
 
 use crate::Reading;
-use basis::elimination::Basis;
-use gears::{Row, is_row_message, place_row, row_in};
+use gears::{is_row_message, place_row, row_in};
 use parity::Code;
 use refusals::{Refusal, Rule};
 use repair::Recovery;
@@ -18,13 +17,13 @@ use repair::decoder::decode;
 use systematic::{carry, take_out};
 
 // The word with the row's message, which is made in `message`, at the free places, and the others as the rows of the basis say.
-pub fn write(row: Row, basis: &Basis, message: &mut [u8], word: &mut [u8])
-    requires { Form (length word.old) basis.now.rows basis.now.leads × (free_count (length word.old) basis.now.leads ≤ length message.old) }
-    ensures { Carried (length word.old) basis.now.rows basis.now.leads
-        (row_message (length message.old) row.gear (lamp_number row.lamp)) word.new }
+pub fn write(gear: u32, lamp: u32, rows: &[u64], leads: &[u8], message: &mut [u8], word: &mut [u8])
+    requires { Form (length word.old) rows.now leads.now × (free_count (length word.old) leads.now ≤ length message.old) }
+    ensures { Carried (length word.old) rows.now leads.now
+        (row_message (length message.old) gear lamp) word.new }
 {
-    place_row(row, message);
-    carry(message, basis, word);
+    place_row(gear, lamp, message);
+    carry(message, rows, leads, word);
 }
 
 // The row that the word received carries: what repair refuses it by, 11, or the row. The word is repaired into `word`, which is used as room where no

@@ -21,14 +21,21 @@ pub fn write(code: &Code<'_>, gear: u32, lamp: u32, word: &mut [u8]) -> Result<(
 {
     let mut basis = Basis::new();
     let mut message: [u8; LONGEST] = [0; LONGEST];
-    let k = code_basis(code, &mut basis);
+    let k = code_basis(code.c, code.h, code.cols, &mut basis.rows, &mut basis.leads);
     if k < ROW_BITS {
         return Err(Refusal(Rule::TooFewBits));
     }
     let Some(row) = Row::allowed(gear, lamp) else {
         return Err(Refusal(Rule::NoSuchRow));
     };
-    based::write(row, &basis, &mut message[..k], word);
+    based::write(
+        row.gear,
+        row.lamp.into(),
+        &basis.rows,
+        &basis.leads,
+        &mut message[..k],
+        word,
+    );
     Ok(())
 }
 
@@ -42,7 +49,7 @@ pub fn read(code: &Code<'_>, received: &[u8], repaired: &mut [u8]) -> Reading
     let mut leads: [u8; LONGEST] = [0; LONGEST];
     let mut word: [u8; LONGEST] = [0; LONGEST];
     let mut message: [u8; LONGEST] = [0; LONGEST];
-    let k = message_columns(code, &mut leads);
+    let k = message_columns(code.c, code.h, code.cols, &mut leads);
     if k < ROW_BITS {
         return Reading::Refused(Refusal(Rule::TooFewBits));
     }

@@ -21,6 +21,7 @@ use field::Elem;
 use params::Parameters;
 use refusals::Refusal;
 use shortened::{Lent, Setting, begin};
+use slices::copy;
 
 // The most senders, and the most repairs in a round.
 pub const MOST_SENDERS: usize = 8;
@@ -121,7 +122,7 @@ fn offer_on(
     // Cut by hand, as in `rounds`.
     let start = sender * word.len();
     let end = start + word.len();
-    words[start..end].copy_from_slice(word);
+    copy(word, &mut words[start..end]);
     waiting[sender] = 1;
     Ok(())
 }

@@ -13,6 +13,7 @@ use nearest::is_code_word;
 use parity::Code;
 use refusals::Refusal;
 use repair::decoder;
+use slices::copy;
 use turns::{Mark, take_turns};
 use wire::recovery_code;
 
@@ -54,14 +55,16 @@ fn hand_one(code: &Code<'_>, mark: Mark, word: &[u8], handed: &mut [u8]) -> u32
     ensures value { result ≡ of_code answer_of code.now mark word.now }
     ensures handed_after { handed.new ≡ of_code handed_of code.now mark word.now handed.old }
 {
-    match mark {
-        Mark::Stays => NONE,
-        Mark::CodeWord => {
-            handed.copy_from_slice(word);
-            0
-        }
-        Mark::Other => recovery_code(decoder::repair(code, word, handed)),
+    // By tests, and by no `match`: a must-fail edit changes the second.
+    if mark.stays() {
+        return NONE;
     }
+    let whole = mark == Mark::CodeWord;
+    if whole {
+        copy(word, handed);
+        return 0;
+    }
+    recovery_code(decoder::repair(code, word, handed))
 }
 
 // The same for all senders.

@@ -1,4 +1,4 @@
--- How `begin` ends, at the setting that its lent lists mean.
+-- How `begin_in` ends, at the setting that its lent lists mean.
 use Rattle.std.specs.Prelude.{◌≡◌, ◌≢◌, Bool, List, ℕ, Result, Ok, Err}
 use Rattle.std.proofs.Common.{sym, ◌∙◌, subst, arith}
 use Rattle.refusals.specs.Rules.{fault}

@@ -8,10 +8,9 @@ ghost use Rattle.std.specs.Prelude.{◌≡◌, ◌≤◌, length, take};
 ghost use Rattle.refusals.specs.Outcome.{tested};
 ghost use Rattle.refusals.specs.Rules.{fault, unless_refused};
 ghost use Rattle.refusals.specs.Counted.{Count, Refused};
-ghost use Rattle.signature.specs.Inverses.{Inverted};
+ghost use Rattle.slices.specs.Lengths.{longest};
 ghost use Rattle.basis.specs.Table.{free_at};
 ghost use Rattle.parity.specs.Selected.{OnColumns};
-ghost use Rattle.parity.specs.OfCode.{of_code};
 ghost use Rattle.shortened.specs.Marks.{sent_count, sent_of, hidden_pass, hides_messages, mark_rules};
 ghost use Rattle.shortened.specs.Setting.{places, short_code, short_selection};
 ghost use Rattle.shortened.specs.Begun.{Begun};
@@ -103,28 +102,34 @@ fn hides_free(hidden: &[u8], leads: &[u8]) -> bool
 }
 
 // Whether every hidden place is a message column, of an accepted code and any list of its columns.
-fn hides_messages(code: &Code<'_>, hidden: &[u8]) -> bool
-    requires { length hidden.now ≡ length code.now.cols.now }
-    ensures { result ≡ of_code hides_messages code.now hidden.now }
+fn hides_messages(c: Parameters, h: &[Elem], cols: &[Column], hidden: &[u8]) -> bool
+    requires { OnColumns c h.now cols.now × (length hidden.now ≡ length cols.now) }
+    ensures { result ≡ hides_messages c h.now cols.now hidden.now }
 {
     // Where nothing is hidden, there is no need to know which columns are message columns.
     if sent_places(hidden) == hidden.len() {
         return true;
     }
     let mut leads: [u8; LONGEST] = [0; LONGEST];
-    message_columns(code, &mut leads);
+    message_columns(c, h, cols, &mut leads);
     hides_free(hidden, &leads)
 }
 
 // Whether the marks of an accepted code's columns keep their rules: 20, then 2, where `words` says whether the lent words have their length.
-pub fn check_marks(code: &Code<'_>, hidden: &[u8], words: bool) -> Result<(), Refusal>
-    requires { length hidden.now ≡ length code.now.cols.now }
-    ensures { result ≡ tested (fault (of_code mark_rules code.now hidden.now words)) }
+pub fn check_marks(
+    c: Parameters,
+    h: &[Elem],
+    cols: &[Column],
+    hidden: &[u8],
+    words: bool,
+) -> Result<(), Refusal>
+    requires { OnColumns c h.now cols.now × (length hidden.now ≡ length cols.now) }
+    ensures { result ≡ tested (fault (mark_rules c h.now cols.now hidden.now words)) }
 {
     if !all_bits(hidden) {
         return Err(Refusal(Rule::Hidden));
     }
-    if !hides_messages(code, hidden) {
+    if !hides_messages(c, h, cols, hidden) {
         return Err(Refusal(Rule::Hidden));
     }
     if !words {
@@ -154,13 +159,11 @@ fn keep_sent(hidden: &[u8], columns: &mut [Column]) -> usize
 fn sent_columns(
     c: Parameters,
     h: &[Elem],
-    inverses: &[Elem],
     hidden: &[u8],
     words: bool,
     columns: &mut [Column],
 ) -> Result<usize, Refusal>
-    requires on_columns { OnColumns c h.now (take (length hidden.now) columns.old) × (length hidden.now ≤ length columns.old) }
-    requires inverted { Inverted c.m h.now inverses.now }
+    requires { OnColumns c h.now (take (length hidden.now) columns.old) × (length hidden.now ≤ length columns.old) }
     ensures value { result
         ≡ unless_refused (fault (mark_rules c h.now (take (length hidden.now) columns.old)
         hidden.now words))
@@ -169,17 +172,38 @@ fn sent_columns(
         → take (sent_count hidden.now) columns.new
         ≡ sent_of hidden.now (take (length hidden.now) columns.old) }
 {
-    let code = Code {
-        c,
-        h,
-        inverses,
-        cols: &columns[..hidden.len()],
-    };
-    check_marks(&code, hidden, words)?;
+    check_marks(c, h, &columns[..hidden.len()], hidden, words)?;
     Ok(keep_sent(hidden, columns))
 }
 
-// Begins a call on words: the code is tested, what is lent, and the marks. Gives the code on the columns of the sent places, which stand in the room.
+// Begins a call on words: the code is tested, what is lent, and the marks. Gives the code on the columns of the sent places, which stand in `columns`
+// with the inverses in `inverses`: slices that are long enough for any code.
+pub fn begin_in<'a>(
+    c: Parameters,
+    h: &'a [Elem],
+    s: &Setting<'_>,
+    lent: Lent,
+    inverses: &'a mut [Elem],
+    columns: &'a mut [Column],
+) -> Result<Code<'a>, Refusal>
+    requires { (longest ≤ length inverses.old) × (longest ≤ length columns.old) }
+    ensures { Begun c h.now s.now lent.others lent.words result }
+{
+    let lengths = Lengths {
+        others: lent.others,
+        places: is_all_places(c, s.choice, s.hidden.len()),
+    };
+    choose_columns(c, h, s.choice, lengths, inverses, columns)?;
+    let sent = sent_columns(c, h, s.hidden, lent.words, columns)?;
+    Ok(Code {
+        c,
+        h,
+        inverses,
+        cols: &columns[..sent],
+    })
+}
+
+// The same in the room of a call.
 // Its callers match on the result: what Rattle makes of a `?` on a value with ghost fields, beside an error with a model, antt does not accept. Each
 // does so by itself, since a frame for all that takes a closure would have to say in its contract what the closure does to the call's buffers.
 pub fn begin<'a>(
@@ -191,23 +215,7 @@ pub fn begin<'a>(
 ) -> Result<Code<'a>, Refusal>
     ensures { Begun c h.now s.now lent.others lent.words result }
 {
-    let lengths = Lengths {
-        others: lent.others,
-        places: is_all_places(c, s.choice, s.hidden.len()),
-    };
-    choose_columns(c, h, s.choice, lengths, room)?;
-    let sent = sent_columns(
-        c,
-        h,
-        &room.inverses,
-        s.hidden,
-        lent.words,
-        &mut room.columns,
-    )?;
-    Ok(Code {
-        c,
-        h,
-        inverses: &room.inverses,
-        cols: &room.columns[..sent],
-    })
+    let inverses = &mut room.inverses;
+    let columns = &mut room.columns;
+    begin_in(c, h, s, lent, inverses, columns)
 }

@@ -22,11 +22,6 @@ use Rattle.signature.specs.Tests.{pair_kept, affine}
 use Rattle.signature.specs.TestLaws.{EqualToFirst}
 use Rattle.algebra.specs.Lists.{entry_of}
 
--- a loop that tests p at each index
-pub all_turn : (p : ℕ → Bool) (i : ℕ) → all i p ≡ true → p i ≡ true → all (i + 1) p ≡ true
-unfolding all
-all_turn p i e h = ap (λ (k : ℕ). all k p) (add-one i) ∙ ap₂ (λ (a b : Bool). a && b) e h
-
 -- ---- the pairs i, j
 
 pub index_below : (n i j : ℕ) → is_power n ≡ true → i < n → j < n → i ⊕ j < n

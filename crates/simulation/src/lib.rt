@@ -83,7 +83,7 @@ fn ride_on(code: &Code<'_>, steps: &Steps<'_>, counts: &mut [u32]) -> Result<(),
     ensures { OfCode RideEnded code.now (steps_in steps.now) counts.old result counts.new }
 {
     let mut basis = Basis::new();
-    let k = code_basis(code, &mut basis);
+    let k = code_basis(code.c, code.h, code.cols, &mut basis.rows, &mut basis.leads);
     if k < ROW_BITS {
         return Err(Refusal(Rule::TooFewBits));
     }

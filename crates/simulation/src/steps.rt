@@ -98,7 +98,14 @@ fn send(row: Row, basis: &Basis, marks: &[u8], message: &mut [u8], word: &mut [u
     ensures { Sent (length word.old) basis.now.rows basis.now.leads
         (row_message (length message.old) row.gear (lamp_number row.lamp)) marks.now word.new }
 {
-    based::write(row, basis, message, word);
+    based::write(
+        row.gear,
+        row.lamp.into(),
+        &basis.rows,
+        &basis.leads,
+        message,
+        word,
+    );
     turn(marks, word);
 }
 

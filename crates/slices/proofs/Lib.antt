@@ -1,3 +1,4 @@
 pub mod Entries
 pub mod Room
 pub mod Adding
+pub mod Copying

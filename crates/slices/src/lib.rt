@@ -1,4 +1,4 @@
-// What every call asks of the slices that it is lent, and what is added in place, whatever the entries are.
+// What every call asks of the slices that it is lent, what is added in place, whatever the entries are, and what is copied from one to another.
 #![tactic(auto)]
 
 ghost use Rattle.std.specs.Prelude.{◌≡◌, ℕ, ◌<◌, length, get_or};
@@ -48,5 +48,16 @@ pub fn add<T: Copy + BitXorAssign>(from: &[T], to: &mut [T])
     // By index: std says nothing of what is written after an adapter of `iter_mut` other than `enumerate`, as `zip`.
     for (i, entry) in to.iter_mut().enumerate() {
         *entry ^= from[i];
+    }
+}
+
+// Copies the entries of a slice to another. By a loop: `copy_from_slice` between two slices of which neither is a local array is made into a call of
+// memmove, and the library asks of its surroundings memcpy and memset alone. By index, as in `add`.
+pub fn copy<T: Copy>(from: &[T], to: &mut [T])
+    requires { length to.old ≡ length from.now }
+    ensures { to.new ≡ from.now }
+{
+    for (i, entry) in to.iter_mut().enumerate() {
+        *entry = from[i];
     }
 }

@@ -10,7 +10,6 @@ ghost use Rattle.algebra.specs.Tabulate.{tabulate};
 ghost use Rattle.slices.specs.Bits.{Bits};
 ghost use Rattle.basis.specs.Table.{row_bit, free_at, free_count, placed_at, Form, Completed, Carried};
 
-use basis::elimination::Basis;
 use basis::packed;
 use basis::packed::ROW;
 
@@ -57,13 +56,13 @@ pub fn take_out(word: &[u8], leads: &[u8], message: &mut [u8])
 }
 
 // What row p says of the entries after place p.
-fn forced(basis: &Basis, word: &[u8], p: usize) -> u8
-    requires { Form (length word.now) basis.now.rows basis.now.leads × (p < length word.now) × Bits word.now }
-    ensures { (result ≡ rest gf2 (length word.now) (row_bit basis.now.rows p) (entry_of word.now) p) × (result < 2) }
+fn forced(rows: &[u64], leads: &[u8], word: &[u8], p: usize) -> u8
+    requires { Form (length word.now) rows.now leads.now × (p < length word.now) × Bits word.now }
+    ensures { (result ≡ rest gf2 (length word.now) (row_bit rows.now p) (entry_of word.now) p) × (result < 2) }
 {
     let start = p * ROW;
     let end = start + ROW;
-    let row = &basis.rows[start..end];
+    let row = &rows[start..end];
     let mut sum: u8 = 0;
     // By index: j is a place of the packed row and of the word.
     for j in p + 1..word.len() {
@@ -73,24 +72,24 @@ fn forced(basis: &Basis, word: &[u8], p: usize) -> u8
 }
 
 // Fills in the places with a row, from right to left.
-fn complete(basis: &Basis, word: &mut [u8])
-    requires { Form (length word.old) basis.now.rows basis.now.leads × Bits word.old }
-    ensures { Completed (length word.old) basis.now.rows basis.now.leads word.old word.new }
+fn complete(rows: &[u64], leads: &[u8], word: &mut [u8])
+    requires { Form (length word.old) rows.now leads.now × Bits word.old }
+    ensures { Completed (length word.old) rows.now leads.now word.old word.new }
 {
     // By index: p is a place of the leads, of the rows and of the word, which is read at the others.
     for p in (0..word.len()).rev() {
-        if basis.leads[p] == 1 {
-            word[p] = forced(basis, word, p);
+        if leads[p] == 1 {
+            word[p] = forced(rows, leads, word, p);
         }
     }
 }
 
 // The word with the message at the free places, and the others as the rows say.
-pub fn carry(message: &[u8], basis: &Basis, word: &mut [u8])
-    requires form { Form (length word.old) basis.now.rows basis.now.leads }
-    requires leads_in_bounds { (free_count (length word.old) basis.now.leads ≤ length message.now) × Bits message.now }
-    ensures { Carried (length word.old) basis.now.rows basis.now.leads message.now word.new }
+pub fn carry(message: &[u8], rows: &[u64], leads: &[u8], word: &mut [u8])
+    requires form { Form (length word.old) rows.now leads.now }
+    requires leads_in_bounds { (free_count (length word.old) leads.now ≤ length message.now) × Bits message.now }
+    ensures { Carried (length word.old) rows.now leads.now message.now word.new }
 {
-    place(message, &basis.leads, word);
-    complete(basis, word);
+    place(message, leads, word);
+    complete(rows, leads, word);
 }

@@ -9,43 +9,52 @@ ghost use Rattle.slices.specs.Bits.{all_bits};
 ghost use Rattle.parity.specs.Word.{syndrome_of};
 ghost use Rattle.parity.specs.Columns.{roles_of, dimension, message_of, encoding_of};
 ghost use Rattle.parity.specs.OfCode.{of_code};
+ghost use Rattle.parity.specs.Selected.{OnColumns};
 ghost use Rattle.messages.specs.MessageRules.{message_rules};
 ghost use Rattle.shortened.specs.Marks.{sent_dimension, mark_rules};
 ghost use Rattle.words.specs.Answers.{bit_rules};
 
+use basis::Column;
 use basis::elimination::Basis;
 use field::Elem;
 use messages::{check_message, code_basis, message_columns};
+use params::Parameters;
 use parity::{Code, syndromes};
 use refusals::{Refusal, Rule};
 use shortened::{check_marks, sent_places};
 use slices::{LONGEST, all_bits};
 
 // 1 for each message column and 0 for each check column into `out`, and k.
-pub fn roles(code: &Code<'_>, out: &mut [u8]) -> u32
-    requires { length out.old ≡ length code.now.cols.now }
-    ensures value { result ≡ of_code dimension code.now }
-    ensures out_after { out.new ≡ of_code roles_of code.now }
+pub fn roles(c: Parameters, h: &[Elem], cols: &[Column], out: &mut [u8]) -> u32
+    requires { OnColumns c h.now cols.now × (length out.old ≡ length cols.now) }
+    ensures value { result ≡ dimension c h.now cols.now }
+    ensures out_after { out.new ≡ roles_of c h.now cols.now }
 {
     let mut leads: [u8; LONGEST] = [0; LONGEST];
-    let k = message_columns(code, &mut leads);
+    let k = message_columns(c, h, cols, &mut leads);
     systematic::roles(&leads, out);
     k as u32
 }
 
 // The same where marks say which places are sent: k counts the sent message columns, or the marks are refused.
-pub fn short_roles(code: &Code<'_>, hidden: &[u8], out: &mut [u8]) -> Result<u32, Refusal>
-    requires { (length hidden.now ≡ length code.now.cols.now) × (length out.old ≡ length code.now.cols.now) }
+pub fn short_roles(
+    c: Parameters,
+    h: &[Elem],
+    cols: &[Column],
+    hidden: &[u8],
+    out: &mut [u8],
+) -> Result<u32, Refusal>
+    requires { OnColumns c h.now cols.now × (length hidden.now ≡ length cols.now) × (length out.old ≡ length cols.now) }
     ensures value { result
-        ≡ unless_refused (fault (of_code mark_rules code.now hidden.now true)) Refused
-        (Count (of_code sent_dimension code.now hidden.now)) }
+        ≡ unless_refused (fault (mark_rules c h.now cols.now hidden.now true)) Refused
+        (Count (sent_dimension c h.now cols.now hidden.now)) }
     ensures out_after { out.new
-        ≡ unless_refused (fault (of_code mark_rules code.now hidden.now true)) (λ k. out.old)
-        (of_code roles_of code.now) }
+        ≡ unless_refused (fault (mark_rules c h.now cols.now hidden.now true)) (λ k. out.old)
+        (roles_of c h.now cols.now) }
 {
-    check_marks(code, hidden, true)?;
+    check_marks(c, h, cols, hidden, true)?;
     let not_sent = hidden.len() - sent_places(hidden);
-    Ok(roles(code, out) - not_sent as u32)
+    Ok(roles(c, h, cols, out) - not_sent as u32)
 }
 
 // The t sums of the word's columns into `out`, or 8.
@@ -57,7 +66,7 @@ pub fn syndrome(code: &Code<'_>, word: &[u8], out: &mut [Elem]) -> Result<(), Re
     if !all_bits(word) {
         return Err(Refusal(Rule::Bit));
     }
-    syndromes::syndrome(code, word, out);
+    syndromes::syndrome(code.c.m, code.h, code.cols, word, out);
     Ok(())
 }
 
@@ -70,9 +79,9 @@ pub fn encode(code: &Code<'_>, message: &[u8], word: &mut [u8]) -> Result<(), Re
         word.old (of_code encoding_of code.now message.now) word.new }
 {
     let mut basis = Basis::new();
-    let k = code_basis(code, &mut basis);
+    let k = code_basis(code.c, code.h, code.cols, &mut basis.rows, &mut basis.leads);
     check_message(k, message.len(), message)?;
-    systematic::carry(message, &basis, word);
+    systematic::carry(message, &basis.rows, &basis.leads, word);
     Ok(())
 }
 
@@ -84,7 +93,7 @@ pub fn message(code: &Code<'_>, word: &[u8], message: &mut [u8]) -> Result<(), R
         message.old (of_code message_of code.now word.now) message.new }
 {
     let mut leads: [u8; LONGEST] = [0; LONGEST];
-    let k = message_columns(code, &mut leads);
+    let k = message_columns(code.c, code.h, code.cols, &mut leads);
     check_message(k, message.len(), word)?;
     systematic::take_out(word, &leads, message);
     Ok(())

@@ -13,7 +13,6 @@ ghost use Rattle.words.specs.Answers.{encode_answer, encode_after, message_answe
 use columns::{Lengths, Room, choose_columns, is_all_places};
 use field::Elem;
 use params::Parameters;
-use parity::Code;
 use refusals::Refusal;
 use shortened::{Lent, Setting, begin};
 
@@ -28,14 +27,8 @@ pub fn roles(c: Parameters, h: &[Elem], s: &Setting<'_>, out: &mut [u8]) -> Resu
         places: is_all_places(c, s.choice, s.hidden.len()) & is_all_places(c, s.choice, out.len()),
     };
     let mut room = Room::new();
-    let n = choose_columns(c, h, s.choice, lent, &mut room)?;
-    let code = Code {
-        c,
-        h,
-        inverses: &room.inverses,
-        cols: &room.columns[..n],
-    };
-    internal::short_roles(&code, s.hidden, out)
+    let n = choose_columns(c, h, s.choice, lent, &mut room.inverses, &mut room.columns)?;
+    internal::short_roles(c, h, &room.columns[..n], s.hidden, out)
 }
 
 // The t sums of the word's columns, row by row.

@@ -1,5 +1,5 @@
 -- `inverse` meets its contract: a block whose elements sum to zero is refused by 9, and the other rules give what the division asks.
-use mathlib.Core.Path.{refl, sym, ap, ap₂, subst, ◌∙◌}
+use mathlib.Core.Path.{refl, sym, ap, subst, ◌∙◌}
 use mathlib.Core.Bool.{not}
 use Prim.Native.Nat.{ℕ, ◌<◌, ◌^◌}
 use native.Mathlib.Omega.{arith}
@@ -10,7 +10,6 @@ use Rattle.refusals.specs.Ending.{first_refuses}
 use Rattle.refusals.specs.Outcome.{Done, Refused}
 use Rattle.refusals.specs.Testing.{tested_none, tested_due, refuses, first_passed_on}
 use Rattle.field.specs.Gf.{gf}
-use Rattle.slices.specs.Elements.{Elements}
 use Rattle.dyadic.specs.Block.{quotient, block_inverse}
 use Rattle.dyadic.specs.Invertible.{is_invertible}
 use Rattle.blocks.specs.Answers.{size_rules, block_rules, block_fault, inverse_rules, inverse_fault, inverse_answer, inverse_after}
@@ -49,13 +48,10 @@ product-requires c =
     let small = subst (λ (x : ℕ). x < 2 ^ m) (sym (c.total-sum.ensures m)) (total_checked h) in
     (h.width, small, small)
 
-pub copy_from_slice-requires : goal.copy_from_slice-requires
-copy_from_slice-requires c = (block_checked _ _ _ c.in_ok-check_block.ensures).room
-
 pub divide-requires : goal.divide-requires
 divide-requires c =
     let h = block_checked _ _ _ c.in_ok-check_block.ensures in
-    (h.width, c.product.ensures.1, subst (Elements c.args.m) (sym c.copy_from_slice.ensures.after) h.elements)
+    (h.width, h.elements, c.product.ensures.1, h.room)
 
 pub returns : goal.returns
 unfolding inverse_answer inverse_after inverse_fault inverse_rules block_fault block_rules size_rules block_inverse is_invertible
@@ -68,5 +64,5 @@ returns c =
     let number = sym (fault_rest rules _ tt none ∙ fault_past 9 _ (ap not (ne_eqb _ 0 (λ z. c.if-zero.false (sum ∙ z)))) fault_empty) in
     record {
       value = accept Refused Done number refl;
-      out_after = c.divide.ensures ∙ ap₂ (quotient (gf g.m)) c.copy_from_slice.ensures.after square ∙ accept (λ k. g.out.now) _ number refl;
+      out_after = c.divide.ensures ∙ ap (quotient (gf g.m) g.a.now) square ∙ accept (λ k. g.out.now) _ number refl;
     }

@@ -9,7 +9,7 @@ use Rattle.refusals.specs.Answered.{counted_apart}
 use Rattle.refusals.specs.Testing.{tested_none, tested_due, handed_on}
 use Rattle.columns.specs.Choice.{Choice.selection, selected_column}
 use Rattle.columns.specs.Listed.{Listed}
-use Rattle.columns.proofs.Beginning.{code_refused, some_roots, few_blocks, selection_refused, selecting, word_short, selection_listed, written_front}
+use Rattle.columns.proofs.Beginning.{front_long, code_refused, some_roots, few_blocks, selection_refused, selecting, word_short, selection_listed, written_front}
 use Rattle.columns.proofs.selected_columns.Goals as goal
 
 pub returns-in_err-check_code : goal.returns-in_err-check_code
@@ -48,8 +48,10 @@ select_columns-requires c =
     let a = c.args in
     let none = sym (tested_none c.in_ok-check_code.ensures.value) in
     let passed = sym (tested_none c.in_ok-check_selection.ensures) in
-    let short = word_short a.c a.h.now a.s.blocks.now a.s.shifts.now a.lent.others a.lent.places none (omega arith) passed (omega arith) in
-    (selecting a.c a.h.now a.s.blocks.now a.s.shifts.now a.lent.others a.lent.places none (omega arith) passed (omega arith), omega arith)
+    let short = word_short a.c a.h.now a.s.blocks.now a.s.shifts.now a.lent.others a.lent.places none (omega arith) passed (omega arith) in (
+      selecting a.c a.h.now a.s.blocks.now a.s.shifts.now a.lent.others a.lent.places none (omega arith) passed (omega arith),
+      sym (front_long a.columns.now short c.requires.1),
+    )
 
 pub slice_bounds-select_columns-end : goal.slice_bounds-select_columns-end
 slice_bounds-select_columns-end c =
@@ -58,6 +60,14 @@ slice_bounds-select_columns-end c =
     let passed = sym (tested_none c.in_ok-check_selection.ensures) in
     let short = word_short a.c a.h.now a.s.blocks.now a.s.shifts.now a.lent.others a.lent.places none (omega arith) passed (omega arith) in
     omega arith
+
+pub slice_bounds-select_columns-end-2 : goal.slice_bounds-select_columns-end-2
+slice_bounds-select_columns-end-2 c =
+    let a = c.args in
+    let none = sym (tested_none c.in_ok-check_code.ensures.value) in
+    let passed = sym (tested_none c.in_ok-check_selection.ensures) in
+    let short = word_short a.c a.h.now a.s.blocks.now a.s.shifts.now a.lent.others a.lent.places none (omega arith) passed (omega arith) in
+    front_long a.columns.now short c.requires.1
 
 pub overflow_mul-n : goal.overflow_mul-n
 overflow_mul-n c =
@@ -77,7 +87,7 @@ returns c =
     let column = selected_column a.c.t a.s.blocks.now a.s.shifts.now in
     let n = length a.s.blocks.now * a.c.t in
     let numbered =
-    written_front (λ n. tabulate n column) a.room.now.columns (length-tabulate n column) (omega arith) c.select_columns.ensures in
+    written_front (λ n. tabulate n column) a.columns.now (length-tabulate n column) (omega arith) c.select_columns.ensures in
     record {
       listed = selection_listed a.c a.h.now a.s.blocks.now a.s.shifts.now a.lent.others a.lent.places none (omega arith) passed (omega arith) _
           numbered;

@@ -7,7 +7,7 @@ use Rattle.columns.specs.Choice.{Choice.whole_code}
 use Rattle.columns.specs.Listed.{Listed}
 use Rattle.parity.specs.Word.{whole}
 use Rattle.parity.specs.Selected.{length_whole}
-use Rattle.columns.proofs.Beginning.{written_front, whole_refused, whole_listed, whole_short}
+use Rattle.columns.proofs.Beginning.{front_long, written_front, whole_refused, whole_listed, whole_short}
 use Rattle.columns.proofs.whole_columns.Goals as goal
 
 pub returns-in_err-check_code : goal.returns-in_err-check_code
@@ -25,16 +25,30 @@ pub slice_bounds-number_columns-end : goal.slice_bounds-number_columns-end
 slice_bounds-number_columns-end c =
     let a = c.args in
     let none = tested_none c.in_ok-check_code.ensures.value in
-    let short = whole_short a.c a.h.now a.lent.others a.lent.places a.room.now.columns (sym none) (omega arith) in
+    let short = whole_short a.c a.h.now a.lent.others a.lent.places a.columns.now (sym none) (omega arith) in
     omega arith
+
+pub slice_bounds-number_columns-end-2 : goal.slice_bounds-number_columns-end-2
+slice_bounds-number_columns-end-2 c =
+    let a = c.args in
+    let none = tested_none c.in_ok-check_code.ensures.value in
+    let short = whole_short a.c a.h.now a.lent.others a.lent.places a.columns.now (sym none) (omega arith) in
+    front_long a.columns.now short c.requires.1
+
+pub number_columns-requires : goal.number_columns-requires
+number_columns-requires c =
+    let a = c.args in
+    let none = tested_none c.in_ok-check_code.ensures.value in
+    let short = whole_short a.c a.h.now a.lent.others a.lent.places a.columns.now (sym none) (omega arith) in
+    omega (arith, front_long a.columns.now short c.requires.1)
 
 pub returns : goal.returns
 returns c =
     let a = c.args in
     let record { value = value; inverted = inverted } = c.in_ok-check_code.ensures in
     let none = sym (tested_none value) in
-    let short = whole_short a.c a.h.now a.lent.others a.lent.places a.room.now.columns none (omega arith) in
-    let numbered = written_front whole a.room.now.columns (length_whole a.c.n) (omega arith) c.number_columns.ensures in
+    let short = whole_short a.c a.h.now a.lent.others a.lent.places a.columns.now none (omega arith) in
+    let numbered = written_front whole a.columns.now (length_whole a.c.n) (omega arith) c.number_columns.ensures in
     record {
       listed = whole_listed a.c a.h.now a.lent.others a.lent.places _ none (omega arith) numbered;
       by_index = λ k e. inverted refl;

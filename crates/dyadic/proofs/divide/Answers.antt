@@ -1,35 +1,28 @@
--- `divide` meets its contract: the loop multiplies the entries by the inverse, and what it has not yet filled is still there.
-use mathlib.Core.Path.{refl, sym, ap₂, ◌∙◌, subst}
-use Prim.Native.Nat.{ℕ, ◌<◌, ◌^◌}
-use native.Mathlib.Nat.{le_refl}
-use lib.ListN.{length}
-use Rattle.algebra.specs.Filling.{filling_start, filling_turn, filling_old, filling_end}
+-- `divide` meets its contract: the loop fills the buffer with the quotients of entries.
+use mathlib.Core.Path.{refl, ap, ◌∙◌}
+use Prim.Native.Nat.{ℕ}
+use lib.ListN.{length, get_or}
+use Rattle.algebra.specs.Filling.{filling_start, filling_turn, filling_end}
+use Rattle.algebra.specs.Tabulate.{tabulate}
 use Rattle.field.specs.Gf.{gf}
 use Rattle.dyadic.specs.Block.{quotient}
-use Rattle.dyadic.proofs.divide.Invariants.{quotients}
+use Rattle.dyadic.proofs.Quotients.{quotients}
 use Rattle.dyadic.proofs.divide.Goals as goal
 
-pub loop-entry-init : goal.loop-entry-init
-loop-entry-init c =
+pub loop-i-init : goal.loop-i-init
+loop-i-init c =
     let g = c.args in
-    filling_start (quotients g.m g.block.now g.c) (length g.block.now) g.block.now refl
+    filling_start (quotients g.m g.a.now g.c) (length g.out.now) g.out.now refl
 
-pub product-requires : goal.product-requires
-product-requires c =
-    let l = c.loop-entry in
-    let old = filling_old l.invariant l.entry-index 0 (le_refl l.entry-index) in (
-      c.requires.0,
-      subst (λ (x : ℕ). x < 2 ^ c.args.m) (sym old) (c.requires.2 l.entry-index c.loop-entry-test.true),
-      c.inverse-factor.ensures.1,
-    )
-
-pub loop-entry-preserved : goal.loop-entry-preserved
-loop-entry-preserved c =
-    let l = c.loop-entry in
-    let m = c.args.m in
-    filling_turn l.invariant c.loop-entry-test.true
-    (c.product.ensures.0 ∙ ap₂ (gf m).mul (filling_old l.invariant l.entry-index 0 (le_refl l.entry-index)) c.inverse-factor.ensures.0)
+pub loop-i-preserved : goal.loop-i-preserved
+loop-i-preserved c =
+    let l = c.loop-i in
+    let g = c.args in
+    filling_turn l.invariant c.loop-i-test.true
+    (c.product.ensures.0 ∙ ap ((gf g.m).mul (get_or g.a.now l.i 0)) c.inverse-factor.ensures.0)
 
 pub returns : goal.returns
 unfolding quotient
-returns c = filling_end c.loop-entry.invariant c.loop-entry-test.false
+returns c =
+    let g = c.args in
+    filling_end c.loop-i.invariant c.loop-i-test.false ∙ ap (λ (n : ℕ). tabulate n (quotients g.m g.a.now g.c)) c.requires.3

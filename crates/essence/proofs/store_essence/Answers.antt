@@ -3,7 +3,7 @@ use mathlib.Core.Path.{ap}
 use Prim.Native.Nat.{ℕ, ◌-◌, ◌<◌}
 use native.Mathlib.Omega.{arith}
 use lib.ListN.{length, length-append, length-drop}
-use lib.Seq.{length-take-le}
+use borrow.Author.Rules.{rules}
 use Rattle.algebra.specs.Filling.{filling_start, filling_turn, filling_end}
 use Rattle.algebra.specs.Lists.{entry_of}
 use Rattle.algebra.specs.Xor.{◌⊕◌}
@@ -11,11 +11,8 @@ use Rattle.essence.proofs.ShapeLaws.{value_count_is}
 use Rattle.essence.proofs.Storing.{reached, stored}
 use Rattle.essence.proofs.store_essence.Goals as goal
 
-pub overflow_sub-e : goal.overflow_sub-e
-overflow_sub-e c = omega (arith, (value_count_is _ c.requires.0).0)
-
 pub loop-s-init : goal.loop-s-init
-loop-s-init c = filling_start _ _ _ (length-take-le _ c.args.out.now (omega arith))
+loop-s-init c = filling_start _ _ _ (search rules)
 
 pub power-requires : goal.power-requires
 power-requires c = omega (arith, (value_count_is _ c.requires.0).1, c.loop-s.invariant.long)

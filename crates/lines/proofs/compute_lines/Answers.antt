@@ -1,13 +1,7 @@
 -- `compute_lines` meets its contract: what it computes is the listing's.
 use mathlib.Core.Path.{refl, ap, ◌∙◌}
-use Prim.Native.Nat.{ℕ}
-use native.Mathlib.Nat.{le_of_eq}
 use native.Mathlib.Omega.{arith}
-use Rattle.algebra.specs.Lists.{entry_of}
-use Rattle.algebra.specs.Tabulate.{tabulate}
-use Rattle.field.specs.Gf.{gf}
 use Rattle.params.proofs.Accepted.{n_short}
-use Rattle.signature.specs.Signature.{support_at}
 use Rattle.parity.proofs.OfCode.{on_columns}
 use Rattle.parity.specs.ColumnLaws.{message_length-le}
 use Rattle.parity.specs.Columns.{dimension, roles_of}
@@ -15,11 +9,9 @@ use Rattle.parity.specs.Selected.{as_long}
 use Rattle.lines.proofs.Rows.{listing_written}
 use Rattle.lines.proofs.compute_lines.Goals as goal
 
-pub support-requires : goal.support-requires
-support-requires c = le_of_eq c.requires.support_len.0
-
 pub roles-k-requires : goal.roles-k-requires
-roles-k-requires c = as_long c.args.code.now.c c.requires.whole_code.0 c.requires.support_len.1
+roles-k-requires c =
+    let code = c.args.code.now in (on_columns code, as_long code.c c.requires.whole_code.0 c.requires.support_len.1)
 
 pub invariant_of-columns : goal.invariant_of-columns
 invariant_of-columns c =
@@ -29,7 +21,7 @@ invariant_of-columns c =
           record {
             short = omega (arith, n_short L, L.h_length);
             h_long = refl;
-            support_long = omega (arith, c.requires.support_len, c.support.auto, L.h_length);
+            support_long = omega (arith, c.requires.support_len, c.code_support.auto, L.h_length);
             roles_long = omega (arith, c.requires.support_len, c.roles-k.auto, L.h_length);
           };
     }
@@ -47,9 +39,6 @@ pub returns : goal.returns
 returns c =
     let code = c.args.code.now in
     let (every, room) = c.requires.whole_code in
-    let is_support =
-    c.support.ensures
-    ∙ ap (λ (k : ℕ). tabulate k (support_at (gf code.c.m) code.c.omega (entry_of code.h.now))) c.requires.support_len.0 in
     let record { value = count; out_after = roles } = c.roles-k.ensures in
-    listing_written code.c code.h.now c.args.out.now (count ∙ ap (dimension code.c code.h.now) every) is_support
+    listing_written code.c code.h.now c.args.out.now (count ∙ ap (dimension code.c code.h.now) every) c.code_support.ensures
     (roles ∙ ap (roles_of code.c code.h.now) every) c.put_lines.ensures

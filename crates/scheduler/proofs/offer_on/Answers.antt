@@ -18,8 +18,8 @@ pub overflow_add-end : goal.overflow_add-end
 overflow_add-end c =
     omega (arith, offer_inside c.requires c.args.sender c.in_ok-check_offer.ensures)
 
-pub slice_bounds-copy_from_slice-end : goal.slice_bounds-copy_from_slice-end
-slice_bounds-copy_from_slice-end c =
+pub slice_bounds-copy-end : goal.slice_bounds-copy-end
+slice_bounds-copy-end c =
     offer_inside c.requires c.args.sender c.in_ok-check_offer.ensures
 
 pub bounds-waiting-sender : goal.bounds-waiting-sender
@@ -30,4 +30,4 @@ pub returns : goal.returns
 returns c =
     let a = c.args in
     offer_done a.d a.sender a.word.now a.waiting.now a.words.now c.in_ok-check_offer.ensures
-    (part_returned (length a.word.now) a.words.now a.sender c.copy_from_slice.ensures.after)
+    (part_returned (length a.word.now) a.words.now a.sender c.copy.ensures)

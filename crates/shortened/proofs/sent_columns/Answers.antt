@@ -9,7 +9,6 @@ use Rattle.refusals.specs.Counted.{Count, Refused}
 use Rattle.refusals.specs.Testing.{tested_none, tested_due, handed_on}
 use Rattle.refusals.specs.RuleLaws.{refuse, accept}
 use Rattle.slices.specs.Lengths.{longest}
-use Rattle.parity.proofs.OfCode.{accepted_code}
 use Rattle.parity.specs.Selected.{OnColumns, columns_short}
 use Rattle.params.specs.declared.Parameters.{Parameters}
 use Rattle.shortened.specs.Marks.{sent_count, sent_of}
@@ -24,10 +23,6 @@ few hidden columns O l = omega (arith, sent_le hidden, columns_short O, length-t
 -- the marks reach no further than the columns that they are for
 front : (hidden columns : List ℕ) → sent_of hidden columns ≡ sent_of hidden (take (length hidden) columns)
 front hidden columns = sent_cong hidden columns (take (length hidden) columns) (λ p l. sym (get_or-take (length hidden) columns p 0 l))
-
-pub invariant_of-code : goal.invariant_of-code
-invariant_of-code c =
-    let O = c.requires.on_columns.0 in record { accepted = accepted_code O.accepted; inverted = c.requires.inverted; selected = O.selected }
 
 pub returns-in_err-check_marks : goal.returns-in_err-check_marks
 returns-in_err-check_marks c =

@@ -1,22 +1,23 @@
 -- `is_affine` meets its contract. The loops' invariants: the rule holds at every pair passed, in the rows before i and in row i before j.
-use mathlib.Core.Path.{◌≡◌, refl, sym, ap, ◌∙◌, subst}
-use mathlib.Core.Bool.{true}
+use mathlib.Core.Path.{refl, sym, ap, ◌∙◌}
 use Prim.Native.Nat.{ℕ}
 use native.Mathlib.Omega.{arith}
 use Rattle.algebra.specs.All.{all}
+use Rattle.algebra.specs.Scanning.{scanning_start, scanning_turn, scanning_end}
 use Rattle.algebra.specs.Xor.{◌⊕◌}
 use Rattle.signature.specs.Tests.{pair_kept, affine}
 use Rattle.algebra.specs.Lists.{entry_of}
-use Rattle.signature.proofs.Scan.{all_turn, index_below, pair_kept_lem, pair_broken}
+use Rattle.signature.proofs.Scan.{index_below, pair_kept_lem, pair_broken}
 use Rattle.signature.proofs.is_affine.Goals as goal
 
 pub scan-init : goal.scan-init
-unfolding all
-scan-init c = (refl, omega arith, refl)
+scan-init c =
+    let f : ℕ → ℕ = entry_of c.args.inverses.now in
+    (refl, scanning_start c.args.n (λ k. all c.args.n (pair_kept f k)))
 
 pub loop-j-init : goal.loop-j-init
-unfolding all ◌⊕◌
-loop-j-init c = (c.scan.invariant.0, refl, omega arith, refl)
+unfolding ◌⊕◌
+loop-j-init c = (c.scan.invariant.0, refl, scanning_start c.args.n (pair_kept (entry_of c.args.inverses.now) c.scan.i))
 
 pub bounds-inverses-i-in-loop-j : goal.bounds-inverses-i-in-loop-j
 unfolding ◌⊕◌
@@ -35,30 +36,18 @@ loop-j-preserved c =
     let f : ℕ → ℕ = entry_of c.args.inverses.now in (
       l.invariant.0,
       l.invariant.1,
-      omega arith,
-      all_turn (pair_kept f c.scan.i) l.j l.invariant.3
+      scanning_turn l.invariant.2 c.loop-j-test.true
           (pair_kept_lem f c.scan.i l.j (c.if-at-expected.false ∙ ap (λ (x : ℕ). f l.j ⊕ x) l.invariant.1)),
     )
 
 pub scan-preserved : goal.scan-preserved
 scan-preserved c =
     let l = c.loop-j in
-    let f : ℕ → ℕ = entry_of c.args.inverses.now in
-    let n = c.args.n in
-    let whole : l.j ≡ n = omega arith in (
-      l.invariant.0,
-      omega arith,
-      all_turn (λ k. all n (pair_kept f k)) c.scan.i c.scan.invariant.2
-          (subst (λ (k : ℕ). all k (pair_kept f c.scan.i) ≡ true) whole l.invariant.3),
-    )
+    (l.invariant.0, scanning_turn c.scan.invariant.1 c.scan-test.true (sym (scanning_end l.invariant.2 (omega arith))))
 
 pub returns-after-scan : goal.returns-after-scan
 unfolding affine
-returns-after-scan c =
-    let f : ℕ → ℕ = entry_of c.args.inverses.now in
-    let n = c.args.n in
-    let whole : c.scan.i ≡ n = omega arith in
-    c.scan.invariant.0 ∙ sym (subst (λ (k : ℕ). all k (λ i. all n (pair_kept f i)) ≡ true) whole c.scan.invariant.2)
+returns-after-scan c = c.scan.invariant.0 ∙ scanning_end c.scan.invariant.1 (omega arith)
 
 pub returns-then-at-expected : goal.returns-then-at-expected
 unfolding ◌⊕◌

@@ -12,6 +12,6 @@ pub complete-requires : goal.complete-requires
 complete-requires c =
     let a = c.args in
     let placed = c.place in (
-      subst (λ (k : ℕ). Form k a.basis.now.rows a.basis.now.leads) (sym placed.auto.word) c.requires.form,
-      subst (λ (x : List ℕ). Bits x) (sym placed.ensures) (placed_bits (length a.word.now) a.basis.now.leads a.message.now c.requires.leads_in_bounds.1),
+      subst (λ (k : ℕ). Form k a.rows.now a.leads.now) (sym placed.auto.word) c.requires.form,
+      subst (λ (x : List ℕ). Bits x) (sym placed.ensures) (placed_bits (length a.word.now) a.leads.now a.message.now c.requires.leads_in_bounds.1),
     )

@@ -4,4 +4,4 @@ use Rattle.systematic.proofs.Places.{Completing}
 use Rattle.systematic.proofs.complete.Given as goal
 
 abbrev pub invariant-loop-p : goal.invariant-loop-p
-invariant-loop-p l = Completing l.basis.rows l.basis.leads l.initial.word l.word l.p
+invariant-loop-p l = Completing l.rows l.leads l.initial.word l.word l.p

@@ -8,7 +8,7 @@ use Rattle.systematic.proofs.forced.Goals as goal
 
 pub loop-j-init : goal.loop-j-init
 loop-j-init c =
-    (refl, force_start c.args.basis.now.rows c.args.word.now c.args.p c.requires.1)
+    (refl, force_start c.args.rows.now c.args.word.now c.args.p c.requires.1)
 
 pub overflow_cast-sum : goal.overflow_cast-sum
 overflow_cast-sum c = omega (arith, read_bit _ _ c.bit.result c.bit.ensures)
@@ -26,7 +26,7 @@ loop-j-preserved c =
     let b = c.bit in (
       refl,
       force_turn l.invariant.1 b.result (omega arith) (read_bit _ _ b.result b.ensures)
-          (b.ensures ∙ part_bit c.args.basis.now.rows c.args.p l.j (omega (arith, c.requires.0.room.short)))
+          (b.ensures ∙ part_bit c.args.rows.now c.args.p l.j (omega (arith, c.requires.0.room.short)))
           (c.requires.2 l.j (omega arith)),
     )
 

@@ -5,4 +5,4 @@ use Rattle.systematic.proofs.Places.{Forcing}
 use Rattle.systematic.proofs.forced.Given as goal
 
 abbrev pub invariant-loop-j : goal.invariant-loop-j
-invariant-loop-j l = (l.j-end ≡ length l.word) × Forcing l.basis.rows l.word l.p l.sum l.j
+invariant-loop-j l = (l.j-end ≡ length l.word) × Forcing l.rows l.word l.p l.sum l.j

@@ -1,8 +1,10 @@
 -- `roles` meets its contract: what the beginning refused is refused, and else the columns that it numbered are those of the choice.
+-- The test of both lengths is found by what it says, so that a proof names no word of it.
 use mathlib.Core.Path.{◌≡◌, refl, ap₂, ◌∙◌, subst}
 use mathlib.Core.Bool.{Bool, true, ◌&&◌}
 use mathlib.Core.List.{List}
 use Prim.Native.Nat.{ℕ}
+use borrow.Author.Rules.{rules}
 use borrow.Author.Tests.{eqb-true}
 use Rattle.algebra.specs.Flags.{both_true}
 use Rattle.refusals.specs.Counted.{Count, Refused}
@@ -12,7 +14,6 @@ use Rattle.parity.specs.Columns.{roles_of}
 use Rattle.columns.proofs.ListedLaws.{listed_as, listed_refuses, listed_few, listed_accepted, listed_columns, listed_long, listed_passes}
 use Rattle.shortened.specs.Marks.{sent_dimension, mark_rules}
 use Rattle.shortened.specs.Setting.{Setting}
-use Rattle.parity.proofs.OfCode.{accepted_code}
 use Rattle.words.specs.Answers.{roles_rules, roles_fault, roles_answer, roles_after}
 use Rattle.words.proofs.roles.Goals as goal
 
@@ -21,7 +22,7 @@ unfolding roles_answer roles_after roles_fault roles_rules
 returns-in_err-n c =
     let a = c.args in
     let both = ap₂ (λ (x y : Bool). x && y) c.is_all_places.ensures c.is_all_places-2.ensures in
-    let listed = listed_as c.in_err-n.ensures.listed both in
+    let listed = listed_as (listed_as c.in_err-n.ensures.listed (search rules)) both in
     let value = handed_on _ c.from_residual.ensures.1 ∙ listed_refuses listed refl _ Refused _ in
     let after = listed_refuses listed refl _ (λ i. a.out.now) _ in
     record {
@@ -29,26 +30,22 @@ returns-in_err-n c =
       out_after = subst (λ (s : Setting). a.out.now ≡ roles_after a.c a.h.now s a.out.now) c.s.view_is after;
     }
 
-pub shared_ref_as_front-code : goal.shared_ref_as_front-code
-shared_ref_as_front-code c = listed_few c.in_ok-n.ensures.listed refl
-
-pub invariant_of-code : goal.invariant_of-code
-invariant_of-code c =
-    let O = listed_columns c.in_ok-n.ensures.listed refl in record { accepted = accepted_code O.accepted; inverted = c.in_ok-n.ensures.by_index _ refl; selected = O.selected }
+pub shared_ref_as_front-short_roles : goal.shared_ref_as_front-short_roles
+shared_ref_as_front-short_roles c = listed_few c.in_ok-n.ensures.listed refl
 
 pub short_roles-requires : goal.short_roles-requires
 short_roles-requires c =
     let both = ap₂ (λ (x y : Bool). x && y) c.is_all_places.ensures c.is_all_places-2.ensures in
-    let listed = listed_as c.in_ok-n.ensures.listed both in
+    let listed = listed_as (listed_as c.in_ok-n.ensures.listed (search rules)) both in
     let (marks, out) = both_true _ _ (listed_accepted listed refl).1 in
-    (listed_long listed refl (eqb-true _ _ marks), listed_long listed refl (eqb-true _ _ out))
+    (listed_columns listed refl, listed_long listed refl (eqb-true _ _ marks), listed_long listed refl (eqb-true _ _ out))
 
 pub returns : goal.returns
 unfolding roles_answer roles_after roles_fault roles_rules
 returns c =
     let a = c.args in
     let both = ap₂ (λ (x y : Bool). x && y) c.is_all_places.ensures c.is_all_places-2.ensures in
-    let listed = listed_as c.in_ok-n.ensures.listed both in
+    let listed = listed_as (listed_as c.in_ok-n.ensures.listed (search rules)) both in
     let record { value = count; out_after = roles } = c.short_roles.ensures in
     let hidden = c.s.inside.hidden.now in
     let marks : List ℕ → List Rule = λ cols. mark_rules a.c a.h.now cols hidden true in

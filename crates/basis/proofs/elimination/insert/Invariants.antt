@@ -5,4 +5,4 @@ use Rattle.basis.proofs.Insertion.{Inserting}
 use Rattle.basis.proofs.elimination.insert.Given as goal
 
 abbrev pub invariant-loop-p : goal.invariant-loop-p
-invariant-loop-p l = (l.basis ≡ l.initial.basis) × Inserting l.n l.initial.row l.basis.rows l.basis.leads l.row l.p
+invariant-loop-p l = (l.rows ≡ l.initial.rows) × (l.leads ≡ l.initial.leads) × Inserting l.n l.initial.row l.rows l.leads l.row l.p

@@ -1,7 +1,7 @@
 -- `elimination::parity_basis` meets its contract. The loop's invariant: the rows brought in so far have the basis's solutions.
-use mathlib.Core.Path.{refl, ap, ◌∙◌, subst}
+use mathlib.Core.Path.{refl, sym, ap, ◌∙◌, subst}
 use mathlib.Core.List.{List}
-use Prim.Native.Nat.{ℕ, ◌<◌}
+use Prim.Native.Nat.{ℕ, ◌≤◌, ◌<◌}
 use native.Mathlib.Omega.{arith}
 use borrow.Author.Rules.{rules}
 use lib.ListN.{length}
@@ -13,13 +13,18 @@ use Rattle.basis.proofs.elimination.parity_basis.Goals as goal
 
 pub loop-k-init : goal.loop-k-init
 loop-k-init c =
-    let empty = c.fill.ensures.after (search rules) in (
+    let empty = c.fill.ensures.after (search rules) in
+    let R = c.requires.2 in (
       refl,
       eliminating_start c.args.m c.args.t c.args.h.now c.args.cols.now
-          (record { short = c.requires.2; rows_long = omega arith; leads_long = omega arith })
+          (record {
+            short = R.short;
+            rows_long = R.rows_long;
+            leads_long = subst (λ (k : ℕ). length c.args.cols.now ≤ k) (sym c.fill.ensures.len) R.leads_long;
+          })
           (λ p l.
           ap (λ (x : List ℕ). entry_of x p) empty
-          ∙ get_or-replicate (length c.args.basis.now.leads) p 0 0 (subst (λ (k : ℕ). p < k) c.fill.ensures.len l)),
+          ∙ get_or-replicate (length c.args.leads.now) p 0 0 (subst (λ (k : ℕ). p < k) c.fill.ensures.len l)),
     )
 
 pub overflow_add-rank : goal.overflow_add-rank

@@ -7,4 +7,4 @@ use Rattle.basis.proofs.elimination.parity_basis.Given as goal
 
 abbrev pub invariant-loop-k : goal.invariant-loop-k
 invariant-loop-k l =
-    (length l.row ≡ row_words) × Eliminating l.m l.t l.h l.cols l.basis.rows l.basis.leads l.rank l.k
+    (length l.row ≡ row_words) × Eliminating l.m l.t l.h l.cols l.rows l.leads l.rank l.k

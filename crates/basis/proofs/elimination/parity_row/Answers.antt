@@ -3,13 +3,13 @@ use mathlib.Core.Path.{refl, ◌∙◌}
 use borrow.Author.Rules.{rules}
 use lib.ListN.{length}
 use Rattle.basis.specs.Table.{parity_bit}
-use Rattle.basis.proofs.Building.{building_start, building_turn}
+use Rattle.basis.proofs.Building.{filled, building_start, building_turn}
 use Rattle.basis.proofs.elimination.parity_row.Goals as goal
 
 pub loop-j-init : goal.loop-j-init
 loop-j-init c =
     let a = c.args in
-    (refl, building_start (parity_bit a.h.now a.cols.now a.i a.b) (length a.cols.now) _ c.requires.0 (c.fill.ensures.after (search rules)))
+    (refl, building_start (parity_bit a.h.now a.cols.now a.i a.b) (length a.cols.now) c.requires.0 (filled a.row.now (c.fill.ensures.after (search rules))))
 
 pub loop-j-preserved : goal.loop-j-preserved
 unfolding parity_bit

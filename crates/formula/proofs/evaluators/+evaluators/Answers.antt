@@ -133,7 +133,7 @@ term-returns-in_err-block t c =
 pub term-returns-then-byte-ne40 : goal.term-returns-then-byte-ne40
 term-returns-then-byte-ne40 t c =
     let held = letter_read (ready_of c.args.letters.now c.requires) c.byte_at-byte.ensures c.lent.ensures (ap option_copied c.in_ok-block.was)
-    c.copy_from_slice.ensures.after in
+    c.copy.ensures in
     marks_read c.args.from held c.after.ensures c.marks.ensures.0 c.marks.ensures.1
 
 pub term-returns-then-brackets-eq0 : goal.term-returns-then-brackets-eq0

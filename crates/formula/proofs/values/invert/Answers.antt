@@ -21,8 +21,8 @@ product-requires c =
     let sum_in = subst (λ (x : ℕ). x < 2 ^ m) (sym (c.total-sum.ensures m)) total_in in
     (c.requires.0, sum_in, sum_in)
 
-pub divide-requires : goal.divide-requires
-divide-requires c = (c.requires.0, c.product.ensures.1, c.requires.1)
+pub divide_in_place-requires : goal.divide_in_place-requires
+divide_in_place-requires c = (c.requires.0, c.product.ensures.1, c.requires.1)
 
 pub returns : goal.returns
 unfolding is_invertible block_inverse
@@ -32,5 +32,5 @@ returns c =
     let square = c.product.ensures.0 ∙ ap (λ (x : ℕ). (gf g.m).mul x x) sum in
     record {
       value = ap (λ (x : ℕ). not (eqb x 0)) sum;
-      value_after = c.divide.ensures ∙ ap (quotient (gf g.m) g.value.now) square;
+      value_after = c.divide_in_place.ensures ∙ ap (quotient (gf g.m) g.value.now) square;
     }

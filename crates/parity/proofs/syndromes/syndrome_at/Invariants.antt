@@ -3,4 +3,4 @@ use Rattle.parity.proofs.Summing.{Summing}
 use Rattle.parity.proofs.syndromes.syndrome_at.Given as goal
 
 abbrev pub invariant-loop-j : goal.invariant-loop-j
-invariant-loop-j l = Summing l.code.c.m l.code.h.now l.code.cols.now l.word l.i l.sum l.j
+invariant-loop-j l = Summing l.m l.h l.cols l.word l.i l.sum l.j

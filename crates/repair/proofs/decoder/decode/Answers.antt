@@ -17,8 +17,8 @@ pub is_code_word-requires : goal.is_code_word-requires
 is_code_word-requires c =
     received_bits c.requires.0 (found_true c.all_bits.ensures c.if-not-all_bits.false)
 
-pub copy_from_slice-requires : goal.copy_from_slice-requires
-copy_from_slice-requires c =
+pub copy-requires : goal.copy-requires
+copy-requires c =
     c.requires.1
     ∙ sym c.requires.0
 
@@ -27,7 +27,7 @@ returns-then-is_code_word c =
     let bits =
     received_bits c.requires.0 (found_true c.all_bits.ensures
     c.if-not-all_bits.false) in
-    code_word_decoded (on_columns c.args.code.now) c.args.received.now bits c.copy_from_slice.ensures.after
+    code_word_decoded (on_columns c.args.code.now) c.args.received.now bits c.copy.ensures
     (sym c.is_code_word.ensures ∙ c.if-is_code_word.true)
 
 pub candidate-turned-requires : goal.candidate-turned-requires

@@ -6,7 +6,6 @@ use lib.ListN.{length}
 use Rattle.slices.specs.Bits.{Bits}
 use Rattle.basis.specs.Table.{free_count, Carried}
 use Rattle.gears.specs.Messages.{length_message, message_bits}
-use Rattle.gears.specs.Rows.{lamp_number}
 use Rattle.rows.proofs.based.write.Goals as goal
 
 pub carry-requires : goal.carry-requires
@@ -14,14 +13,12 @@ carry-requires c =
     let a = c.args in
     let e = c.place_row.ensures in
     let k = length a.message.now in
-    let gear = a.row.gear in
-    let lamp = lamp_number a.row.lamp in
     record {
       form = c.requires.0;
       leads_in_bounds = (
-        subst (λ (x : List ℕ). free_count (length a.word.now) a.basis.now.leads ≤ length x) (sym e)
-            (subst (λ (i : ℕ). free_count (length a.word.now) a.basis.now.leads ≤ i) (sym (length_message k gear lamp)) c.requires.1),
-        subst Bits (sym e) (message_bits k gear lamp),
+        subst (λ (x : List ℕ). free_count (length a.word.now) a.leads.now ≤ length x) (sym e)
+            (subst (λ (i : ℕ). free_count (length a.word.now) a.leads.now ≤ i) (sym (length_message k a.gear a.lamp)) c.requires.1),
+        subst Bits (sym e) (message_bits k a.gear a.lamp),
       );
     }
 
@@ -29,6 +26,6 @@ pub returns : goal.returns
 returns c =
     let a = c.args in
     let carry = c.carry in
-    subst (λ (x : List ℕ). Carried (length a.word.now) a.basis.now.rows a.basis.now.leads x carry.new.word)
+    subst (λ (x : List ℕ). Carried (length a.word.now) a.rows.now a.leads.now x carry.new.word)
     c.place_row.ensures
     carry.ensures

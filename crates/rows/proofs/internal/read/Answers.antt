@@ -13,6 +13,10 @@ use Rattle.rows.proofs.Ending.{read_narrow, row_copied, refused_left}
 use Rattle.slices.proofs.Room.{length_lent, filled}
 use Rattle.rows.proofs.internal.read.Goals as goal
 
+pub message_columns-k-requires : goal.message_columns-k-requires
+message_columns-k-requires c =
+    let O = on_columns c.args.code.now in (O, omega (arith, columns_short O))
+
 pub returns-then-k-lt-ROW_BITS : goal.returns-then-k-lt-ROW_BITS
 returns-then-k-lt-ROW_BITS c =
     let a = c.args in

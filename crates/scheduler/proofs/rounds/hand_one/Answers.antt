@@ -1,24 +1,33 @@
 -- `hand_one` meets its contract: nothing, a code word as it is, or what repair finds.
-use mathlib.Core.Path.{ap}
-use Rattle.turns.specs.Marks.{stays}
+use mathlib.Core.Path.{◌≡◌, refl, sym, ◌∙◌}
+use mathlib.Core.Bool.{true, false≢true}
+use denote.Enum.Bare.{sameb}
+use Rattle.turns.specs.contracts.Mark.{the_type}
+use Rattle.turns.specs.declared.Mark.{Mark}
+use Rattle.turns.specs.declared.Mark.TheVariants.{Stays, CodeWord, Other}
 use Rattle.parity.proofs.OfCode.{on_columns}
 use Rattle.scheduler.proofs.Handing.{none_handed, some_handed, code_word_handed}
 use Rattle.scheduler.proofs.rounds.hand_one.Goals as goal
 
-pub returns-in-Stays : goal.returns-in-Stays
-returns-in-Stays c =
-    let ended = none_handed _ _ _ _ _ _ (ap stays c.in-Stays.is) in
+is_whole : (mark : Mark) → sameb the_type mark CodeWord ≡ true → mark ≡ CodeWord
+is_whole Stays t = absurd (false≢true t)
+is_whole CodeWord t = refl
+is_whole Other t = absurd (false≢true t)
+
+pub returns-then-stays : goal.returns-then-stays
+returns-then-stays c =
+    let ended = none_handed _ _ _ _ _ _ (sym c.stays.ensures ∙ c.if-stays.true) in
     record { value = ended.0; handed_after = ended.1 }
 
-pub returns-in-CodeWord : goal.returns-in-CodeWord
-returns-in-CodeWord c =
-    let (bits, is) = c.requires.bits c.in-CodeWord.is in
+pub returns-then-whole : goal.returns-then-whole
+returns-then-whole c =
+    let (bits, is) = c.requires.bits (is_whole c.args.mark (sym c.eq-whole.ensures ∙ c.if-whole.true)) in
     let ended = code_word_handed _ _ _ _ _ _ (on_columns c.args.code.now) bits is
-    (ap stays c.in-CodeWord.is) c.copy_from_slice.ensures.after in
+    (sym c.stays.ensures ∙ c.if-stays.false) c.copy.ensures in
     record { value = ended.0; handed_after = ended.1 }
 
-pub returns-in-Other : goal.returns-in-Other
-returns-in-Other c =
+pub returns : goal.returns
+returns c =
     let record { value = answered; repaired_after = copied } = c.repair.ensures in
-    let ended = some_handed _ _ _ _ _ _ (ap stays c.in-Other.is) c.recovery_code.ensures answered copied in
+    let ended = some_handed _ _ _ _ _ _ (sym c.stays.ensures ∙ c.if-stays.false) c.recovery_code.ensures answered copied in
     record { value = ended.0; handed_after = ended.1 }

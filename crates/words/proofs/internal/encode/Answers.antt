@@ -2,6 +2,7 @@
 use mathlib.Core.Path.{refl, sym, ap, ◌∙◌, subst}
 use Prim.Native.Nat.{ℕ}
 use native.Mathlib.Nat.{le_of_eq}
+use native.Mathlib.Omega.{arith}
 use lib.ListN.{length}
 use Rattle.refusals.specs.Ending.{ended_done}
 use Rattle.refusals.specs.Testing.{tested_none}
@@ -9,9 +10,15 @@ use Rattle.slices.specs.Bits.{all_bits}
 use Rattle.basis.specs.Table.{free_count, Form, Carried}
 use Rattle.parity.specs.Columns.{encoding_of}
 use Rattle.messages.specs.CodeBasis.{counted}
-use Rattle.messages.proofs.Meaning.{message_fits, message_due}
+use Rattle.parity.proofs.OfCode.{on_columns}
+use Rattle.parity.specs.Selected.{columns_short}
+use Rattle.messages.proofs.Meaning.{room, message_fits, message_due}
 use Rattle.words.proofs.Calls.{message_refused}
 use Rattle.words.proofs.internal.encode.Goals as goal
+
+pub code_basis-k-requires : goal.code_basis-k-requires
+code_basis-k-requires c =
+    let O = on_columns c.args.code.now in (O, room O _ _ (omega arith) (omega (arith, columns_short O)))
 
 pub returns-in_err-check_message : goal.returns-in_err-check_message
 returns-in_err-check_message c =
@@ -25,9 +32,9 @@ carry-requires c =
     let B = found.ensures in
     let (long, bits) =
     message_fits found.result (length c.args.message.now) c.args.message.now (tested_none c.in_ok-check_message.ensures) in
-    let leads = found.new.basis.leads in
+    let leads = found.new.leads in
     record {
-      form = subst (λ (k : ℕ). Form k found.new.basis.rows leads) (sym c.requires) B.form;
+      form = subst (λ (k : ℕ). Form k found.new.rows leads) (sym c.requires) B.form;
       leads_in_bounds = (le_of_eq (ap (λ (k : ℕ). free_count k leads) c.requires ∙ sym (counted B.columns) ∙ sym long), bits);
     }
 
@@ -42,5 +49,5 @@ returns c =
     let due = message_due B.columns (length a.message.now) (all_bits a.message.now) (sym none) in
     ended_done _ a.word.now (encoding_of a.code.now.c a.code.now.h.now a.code.now.cols.now a.message.now) due refl
     (B.encodes a.message.now carry.new.word long bits (carry.auto.word ∙ c.requires)
-    (subst (λ (k : ℕ). Carried k found.new.basis.rows found.new.basis.leads a.message.now carry.new.word) c.requires
+    (subst (λ (k : ℕ). Carried k found.new.rows found.new.leads a.message.now carry.new.word) c.requires
     carry.ensures))

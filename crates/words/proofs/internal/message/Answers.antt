@@ -17,6 +17,10 @@ use Rattle.messages.proofs.Meaning.{message_fits, message_due}
 use Rattle.words.proofs.Calls.{message_refused}
 use Rattle.words.proofs.internal.message.Goals as goal
 
+pub message_columns-k-requires : goal.message_columns-k-requires
+message_columns-k-requires c =
+    let O = on_columns c.args.code.now in (O, omega (arith, columns_short O))
+
 pub returns-in_err-check_message : goal.returns-in_err-check_message
 returns-in_err-check_message c =
     let a = c.args in

@@ -6,9 +6,12 @@ use mathlib.Core.Bool.{cond}
 use Rattle.algebra.specs.Tabulate.{tabulate}
 use Rattle.basis.specs.Table.{free_at}
 use Rattle.messages.specs.CodeBasis.{roles_are, fewer}
-use Rattle.parity.proofs.OfCode.{on_columns}
 use Rattle.parity.specs.Selected.{columns_short}
 use Rattle.words.proofs.internal.roles.Goals as goal
+
+pub message_columns-k-requires : goal.message_columns-k-requires
+message_columns-k-requires c =
+    let O = c.requires.0 in (O, omega (arith, columns_short O))
 
 pub overflow_cast-result : goal.overflow_cast-result
 overflow_cast-result c =
@@ -17,7 +20,7 @@ overflow_cast-result c =
         arith,
         fewer c.message_columns-k.ensures,
         columns_short
-            (on_columns c.args.code.now),
+            c.requires.0,
       );
     }
 
@@ -27,5 +30,5 @@ returns c =
     record {
       value = found.ensures.number;
       out_after = c.roles.ensures ∙ ap (λ (k : ℕ). tabulate k (λ p. cond (free_at found.new.leads p) 1 0))
-          c.requires ∙ sym (roles_are found.ensures);
+          c.requires.1 ∙ sym (roles_are found.ensures);
     }

@@ -12,7 +12,6 @@ use Rattle.refusals.specs.Testing.{tested_none, tested_due, passed_on, went_on}
 use Rattle.slices.specs.Lengths.{longest}
 use Rattle.params.specs.declared.Parameters.{Parameters}
 use Rattle.parity.specs.Columns.{dimension}
-use Rattle.parity.proofs.OfCode.{on_columns}
 use Rattle.parity.specs.Selected.{OnColumns, columns_short}
 use Rattle.shortened.specs.Marks.{sent_count, sent_dimension, mark_rules}
 use Rattle.shortened.specs.MarkLaws.{sent_le}
@@ -50,13 +49,13 @@ overflow_sub-not_sent c =
 
 pub overflow_cast-result : goal.overflow_cast-result
 overflow_cast-result c =
-    record { fits = omega (arith, few c.args.hidden.now (on_columns c.args.code.now) c.requires.0) }
+    record { fits = omega (arith, few c.args.hidden.now c.requires.0 c.requires.1) }
 
 pub overflow_sub-result : goal.overflow_sub-result
 overflow_sub-result c =
     omega (
       arith,
-      more c.args.hidden.now (on_columns c.args.code.now) c.requires.0 (tested_none c.in_ok-check_marks.ensures)
+      more c.args.hidden.now c.requires.0 c.requires.1 (tested_none c.in_ok-check_marks.ensures)
           c.roles.ensures.value c.sent_places.ensures,
     )
 
@@ -66,6 +65,6 @@ returns c =
     let none = tested_none tested in
     let record { value = k; out_after = roles } = c.roles.ensures in
     record {
-      value = ap Count (left c.args.hidden.now (on_columns c.args.code.now) c.requires.0 none k c.sent_places.ensures) ∙ went_on _ _ tested;
+      value = ap Count (left c.args.hidden.now c.requires.0 c.requires.1 none k c.sent_places.ensures) ∙ went_on _ _ tested;
       out_after = roles ∙ sym (given (λ k. c.args.out.now) _ none);
     }

@@ -1,5 +1,5 @@
 -- `internal::syndrome` meets its contract: 8, or the sums.
-use mathlib.Core.Path.{refl, sym}
+use mathlib.Core.Path.{refl, sym, ◌∙◌}
 use native.Mathlib.Omega.{arith}
 use Rattle.algebra.specs.Flags.{found_false, found_true}
 use Rattle.refusals.specs.Ending.{ended_refused, ended_done}
@@ -8,6 +8,7 @@ use Rattle.slices.specs.BitLaws.{received_bits}
 use Rattle.words.specs.Answers.{bit_rules}
 use Rattle.parity.specs.OfCode.{of_code}
 use Rattle.parity.specs.Word.{syndrome_of}
+use Rattle.parity.proofs.OfCode.{summed, rows_reach, sums_are}
 use Rattle.words.proofs.internal.syndrome.Goals as goal
 
 pub returns-then-not-all_bits : goal.returns-then-not-all_bits
@@ -19,12 +20,16 @@ returns-then-not-all_bits c =
 
 pub syndrome-requires : goal.syndrome-requires
 syndrome-requires c =
-    let (long, t_long) = c.requires in
-    (received_bits long (found_true c.all_bits.ensures c.if-not-all_bits.false), t_long)
+    let code = c.args.code.now in
+    let (long, t_long) = c.requires in (
+      summed code (received_bits long (found_true c.all_bits.ensures c.if-not-all_bits.false)),
+      rows_reach code t_long,
+    )
 
 pub returns : goal.returns
 unfolding bit_rules
 returns c =
     let a = c.args in
     ended_done {k = 0} (bit_rules a.word.now) a.out.now (of_code syndrome_of a.code.now a.word.now)
-    (sym (fault_none _ (found_true c.all_bits.ensures c.if-not-all_bits.false, tt))) refl c.syndrome.ensures
+    (sym (fault_none _ (found_true c.all_bits.ensures c.if-not-all_bits.false, tt))) refl
+    (c.syndrome.ensures ∙ sums_are a.code.now a.word.now c.requires.1)

@@ -1,6 +1,9 @@
--- `begin` meets its contract: it numbers the columns of all places, and keeps those of the sent ones.
-use mathlib.Core.Path.{refl}
+-- `begin_in` meets its contract: it numbers the columns of all places, and keeps those of the sent ones.
+use mathlib.Core.Path.{refl, sym}
+use Prim.Native.Nat.{◌≤◌}
 use native.Mathlib.Omega.{arith}
+use lib.ListN.{length}
+use lib.Seq.{length-take-le}
 use Rattle.refusals.specs.Testing.{handed_on}
 use Rattle.columns.proofs.ListedLaws.{listed_as}
 use Rattle.parity.proofs.OfCode.{accepted_code}
@@ -8,10 +11,10 @@ use Rattle.shortened.proofs.Shortening.{columns_refused, marks_columns, marks_sh
 use Rattle.shortened.proofs.Shortening.{sent_on_columns}
 use Rattle.shortened.specs.MarkLaws.{sent_le}
 use Rattle.shortened.proofs.Beginning.{begun_refused, begun_passed}
-use Rattle.shortened.proofs.begin.Goals as goal
+use Rattle.shortened.proofs.begin_in.Goals as goal
 
-pub sent_columns-requires-clause-on_columns : goal.sent_columns-requires-clause-on_columns
-sent_columns-requires-clause-on_columns c =
+pub sent_columns-requires : goal.sent_columns-requires
+sent_columns-requires c =
     let hidden = c.s.inside.hidden.now in
     let L = listed_as c.in_ok-choose_columns.ensures.listed c.is_all_places.ensures in
     (marks_columns hidden L c.args.lent.words refl, omega (arith, marks_short hidden L c.args.lent.words refl))
@@ -32,13 +35,15 @@ returns-in_err-sent c =
     let handed = handed_on _ c.from_residual-in_err-sent.ensures.1 in
     begun_refused c.s.view_is (marks_refused s.hidden.now L a.lent.words refl c.in_err-sent.ensures.value refl) handed
 
-pub shared_ref_as_front-result : goal.shared_ref_as_front-result
-shared_ref_as_front-result c =
+pub slice_bounds-result-end : goal.slice_bounds-result-end
+slice_bounds-result-end c =
     let a = c.args in
     let hidden = c.s.inside.hidden.now in
     let L = listed_as c.in_ok-choose_columns.ensures.listed c.is_all_places.ensures in
     let counted = marks_count hidden L a.lent.words refl c.in_ok-sent.ensures.value refl in
-    omega (arith, counted, sent_le hidden, marks_short hidden L a.lent.words refl)
+    let fits : c.in_ok-sent.sent ≤ length c.sent_columns.new.columns =
+    omega (arith, counted, sent_le hidden, marks_short hidden L a.lent.words refl, c.requires.1, c.choose_columns.auto.columns, c.sent_columns.auto.columns) in
+    sym (length-take-le c.in_ok-sent.sent c.sent_columns.new.columns fits)
 
 pub invariant_of-result : goal.invariant_of-result
 invariant_of-result c =
