@@ -8,12 +8,14 @@ ghost use Rattle.refusals.specs.Rules.{fault};
 ghost use Rattle.codes.specs.Answers.{check_answer, roots_after, support_after, lowest, card_rules, same_answer};
 ghost use Rattle.codes.specs.Same.{same_code};
 
+use basis::Column;
 use columns::Room;
 use field::Elem;
 use params::Parameters;
 use parity::points;
 use refusals::Refusal;
-use shortened::{Lent, Setting, begin};
+use shortened::{Lent, Setting, begin, list_sent};
+use slices::LONGEST;
 
 // Whether a code is accepted, with its marks. Where it is, `roots` holds z_i = 1/h_i + ω and `support` L_j = 1/h_j + 1/h_0 + ω, n of each.
 pub fn check(
@@ -68,11 +70,9 @@ fn check_card(c: Parameters, h: &[Elem], hidden: &[u8]) -> Result<(), Refusal>
         words: true,
     };
     let s = Setting::whole_code(hidden);
-    let mut room = Room::new();
-    match begin(c, h, &s, lent, &mut room) {
-        Ok(_) => Ok(()),
-        Err(refusal) => Err(refusal),
-    }
+    let mut columns: [Column; LONGEST] = [0; LONGEST];
+    list_sent(c, h, &s, lent, &mut columns)?;
+    Ok(())
 }
 
 // Of two tests the refusal with the lower number, or the only one.

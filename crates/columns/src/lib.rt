@@ -2,7 +2,7 @@
 // code is tested, and what is lent, and the columns are numbered.
 #![tactic(auto)]
 
-ghost use Rattle.std.specs.Prelude.{◌≡◌, ℕ, ◌+◌, ◌*◌, ◌≤◌, ◌<◌, ◌/◌, eqb, length, replicate, take};
+ghost use Rattle.std.specs.Prelude.{◌≡◌, ℕ, ◌+◌, ◌*◌, ◌≤◌, ◌<◌, ◌/◌, eqb, length, replicate};
 ghost use Rattle.algebra.specs.Distinct.{distinct};
 ghost use Rattle.algebra.specs.Tabulate.{tabulate};
 ghost use Rattle.algebra.specs.Xor.{◌⊕◌};
@@ -44,8 +44,8 @@ pub struct Lengths {
     pub places: bool,
 }
 
-// Room for what the beginning of a call finds: the inverses of the signature's entries, and the columns. The functions that begin a call are lent it by
-// its two fields.
+// Room for what the beginning of a call finds: the inverses of the signature's entries, and the columns. The calls lend
+// its two fields to what lists the columns.
 #[derive(Drop)]
 pub struct Room {
     pub inverses: [Elem; LONGEST],

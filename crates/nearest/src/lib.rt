@@ -9,7 +9,8 @@ ghost use Rattle.algebra.specs.Lists.{entry_of};
 ghost use Rattle.algebra.specs.Places.{count};
 ghost use Rattle.slices.specs.Bits.{IsBits};
 ghost use Rattle.slices.specs.Elements.{Elements};
-ghost use Rattle.parity.specs.OfCode.{of_code, OfCode};
+ghost use Rattle.parity.specs.OfCode.{OfCode};
+ghost use Rattle.parity.specs.Selected.{OnColumns};
 ghost use Rattle.parity.specs.Word.{is_code_word};
 ghost use Rattle.nearest.specs.Decoding.{root_place, Candidate};
 ghost use Rattle.nearest.specs.Turned.{turned};
@@ -17,16 +18,16 @@ ghost use Rattle.nearest.specs.Turned.{turned};
 use basis::Column;
 use field::Elem;
 use locator::Polynomial;
+use params::Parameters;
 use parity::{Code, points, syndromes};
 use slices::LONGEST;
 
 // Whether the sums of the word's columns are nought in each of the t rows.
-pub fn is_code_word(code: &Code<'_>, word: &[u8]) -> bool
-    requires { IsBits (length code.now.cols.now) word.now }
-    ensures { result ≡ of_code is_code_word code.now word.now }
+pub fn is_code_word(c: Parameters, h: &[Elem], cols: &[Column], word: &[u8]) -> bool
+    requires { OnColumns c h.now cols.now × IsBits (length cols.now) word.now }
+    ensures { result ≡ is_code_word c h.now cols.now word.now }
 {
-    let (m, h, cols) = (code.c.m, code.h, code.cols);
-    (0..code.c.t as usize).all(|i| syndromes::syndrome_at(m, h, cols, word, i) == 0)
+    (0..c.t as usize).all(|i| syndromes::syndrome_at(c.m, h, cols, word, i) == 0)
 }
 
 // The word received with the bits turned at the places whose support is a root of the polynomial, and the number of these places.

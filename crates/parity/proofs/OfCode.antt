@@ -1,4 +1,4 @@
--- What a code on a list of its columns is known to be, and what makes one; and what the sums of a word's columns are for it.
+-- What a code on a list of its columns is known to be, and what makes one; and what the sums of a word's columns are.
 use Rattle.std.specs.Prelude.{◌≡◌, refl, true, List, ℕ, ◌<◌, length}
 use Rattle.std.proofs.Common.{sym, ap, ◌∙◌, subst}
 use Rattle.algebra.specs.Tabulate.{tabulate}
@@ -9,7 +9,6 @@ use Rattle.params.specs.declared.Parameters.{Parameters}
 use Rattle.params.specs.Code.{Accepted, code_fault}
 use Rattle.params.proofs.Accepted.{accepted, accepts}
 use Rattle.parity.specs.declared.Code.{Code}
-use Rattle.parity.specs.OfCode.{of_code}
 use Rattle.parity.specs.Parity.{Summed, signature_sum, signature_syndrome, reaches}
 use Rattle.parity.specs.Selected.{OnColumns}
 use Rattle.parity.specs.Word.{syndrome_at, syndrome_of}
@@ -22,11 +21,11 @@ pub accepted_code : {c : Parameters} {h : List ℕ} → Accepted c h → code_fa
 unfolding code_fault
 accepted_code {c} {h} A = accepts true c h refl A
 
-module _ (code : Code) where
+module _ {c : Parameters} {h cols : List ℕ} (O : OnColumns c h cols) where
   -- what the sums of a word's columns ask for
-  pub summed : {word : List ℕ} → IsBits (length code.cols.now) word → Summed code.c.m code.h.now code.cols.now word
+  pub summed : {word : List ℕ} → IsBits (length cols) word → Summed c.m h cols word
   summed b =
-      let L = (on_columns code).accepted.limits in
+      let L = O.accepted.limits in
       record {
         width = L.width;
         long = b.long;
@@ -34,17 +33,13 @@ module _ (code : Code) where
         elements = L.h_in;
       }
 
-  pub rows_reach : {k : ℕ} → k ≡ code.c.t → Reaches k code.h.now code.cols.now
-  rows_reach e =
-      let O = on_columns code in
-      subst (λ (k : ℕ). Reaches k code.h.now code.cols.now) (sym e) (reaches O.accepted O.selected)
+  pub rows_reach : {k : ℕ} → k ≡ c.t → Reaches k h cols
+  rows_reach e = subst (λ (k : ℕ). Reaches k h cols) (sym e) (reaches O.accepted O.selected)
 
   -- they are the entries of its syndrome
-  pub sum_is : (word : List ℕ) (i : ℕ) → i < code.c.t → signature_sum code.c.m code.h.now code.cols.now word i ≡ of_code syndrome_at code word i
-  sum_is word i l = let O = on_columns code in signature_syndrome O.accepted O.selected word i l
+  pub sum_is : (word : List ℕ) (i : ℕ) → i < c.t → signature_sum c.m h cols word i ≡ syndrome_at c h cols word i
+  sum_is word i l = signature_syndrome O.accepted O.selected word i l
 
-  pub sums_are : (word : List ℕ) {k : ℕ} → k ≡ code.c.t
-      → tabulate k (signature_sum code.c.m code.h.now code.cols.now word) ≡ of_code syndrome_of code word
+  pub sums_are : (word : List ℕ) {k : ℕ} → k ≡ c.t → tabulate k (signature_sum c.m h cols word) ≡ syndrome_of c h cols word
   unfolding syndrome_of
-  sums_are word e =
-      ap (λ (k : ℕ). tabulate k (signature_sum code.c.m code.h.now code.cols.now word)) e ∙ tabulate_cong code.c.t (sum_is word)
+  sums_are word e = ap (λ (k : ℕ). tabulate k (signature_sum c.m h cols word)) e ∙ tabulate_cong c.t (sum_is word)

@@ -18,7 +18,7 @@ pub fn decode(code: &Code<'_>, received: &[u8], word: &mut [u8]) -> Recovery
     if !all_bits(received) {
         return Recovery::Refused(Refusal(Rule::Bit));
     }
-    if is_code_word(code, received) {
+    if is_code_word(code.c, code.h, code.cols, received) {
         copy(received, word);
         return Recovery::Repaired(0);
     }
@@ -26,7 +26,7 @@ pub fn decode(code: &Code<'_>, received: &[u8], word: &mut [u8]) -> Recovery
     if code.c.t < turned {
         return Recovery::Refused(Refusal(Rule::TooFar));
     }
-    if !is_code_word(code, word) {
+    if !is_code_word(code.c, code.h, code.cols, word) {
         return Recovery::Refused(Refusal(Rule::TooFar));
     }
     Recovery::Repaired(turned)

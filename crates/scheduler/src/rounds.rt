@@ -25,7 +25,7 @@ fn mark(code: &Code<'_>, wait: u8, word: &[u8]) -> Mark
     if wait != 1 {
         return Mark::Stays;
     }
-    if is_code_word(code, word) {
+    if is_code_word(code.c, code.h, code.cols, word) {
         return Mark::CodeWord;
     }
     Mark::Other

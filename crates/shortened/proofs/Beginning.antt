@@ -1,4 +1,4 @@
--- How `begin_in` ends, at the setting that its lent lists mean.
+-- How `begin` ends: with the number that is due, or with a code on the columns of the sent places.
 use Rattle.std.specs.Prelude.{◌≡◌, ◌≢◌, Bool, List, ℕ, Result, Ok, Err}
 use Rattle.std.proofs.Common.{sym, ◌∙◌, subst, arith}
 use Rattle.refusals.specs.Rules.{fault}

@@ -1,5 +1,6 @@
 pub mod Beginning
 pub mod BegunLaws
+pub mod ListedSentLaws
 pub mod Marking
 pub mod NothingHidden
 pub mod SettingLaws

@@ -4,15 +4,17 @@
 // A call on words begins here.
 #![tactic(auto)]
 
-ghost use Rattle.std.specs.Prelude.{◌≡◌, ◌≤◌, length, take};
+ghost use Rattle.std.specs.Prelude.{◌≡◌, ℕ, ◌≤◌, length, take};
 ghost use Rattle.refusals.specs.Outcome.{tested};
 ghost use Rattle.refusals.specs.Rules.{fault, unless_refused};
 ghost use Rattle.refusals.specs.Counted.{Count, Refused};
 ghost use Rattle.slices.specs.Lengths.{longest};
+ghost use Rattle.signature.specs.Inverses.{Inverted};
 ghost use Rattle.basis.specs.Table.{free_at};
 ghost use Rattle.parity.specs.Selected.{OnColumns};
 ghost use Rattle.shortened.specs.Marks.{sent_count, sent_of, hidden_pass, hides_messages, mark_rules};
 ghost use Rattle.shortened.specs.Setting.{places, short_code, short_selection};
+ghost use Rattle.shortened.specs.ListedSent.{ListedSent};
 ghost use Rattle.shortened.specs.Begun.{Begun};
 
 use basis::Column;
@@ -176,34 +178,44 @@ fn sent_columns(
     Ok(keep_sent(hidden, columns))
 }
 
-// Begins a call on words: the code is tested, what is lent, and the marks. Gives the code on the columns of the sent places, which stand in `columns`
-// with the inverses in `inverses`: slices that are long enough for any code.
-pub fn begin_in<'a>(
+// Tests the code, what is lent to a call on words, and the marks. Lists the columns of the sent places, at the front of `columns`, and says how many
+// they are; or what refuses the call.
+pub fn list_sent(
     c: Parameters,
-    h: &'a [Elem],
+    h: &[Elem],
     s: &Setting<'_>,
     lent: Lent,
-    inverses: &'a mut [Elem],
-    columns: &'a mut [Column],
-) -> Result<Code<'a>, Refusal>
+    columns: &mut [Column],
+) -> Result<usize, Refusal>
+    requires { longest ≤ length columns.old }
+    ensures { ListedSent c h.now s.now lent.others lent.words columns.new result }
+{
+    let mut inverses: [Elem; LONGEST] = [0; LONGEST];
+    list_sent_inverses(c, h, s, lent, &mut inverses, columns)
+}
+
+// The same, and where the call is not refused `inverses` begins with the inverses of the signature's entries.
+pub fn list_sent_inverses(
+    c: Parameters,
+    h: &[Elem],
+    s: &Setting<'_>,
+    lent: Lent,
+    inverses: &mut [Elem],
+    columns: &mut [Column],
+) -> Result<usize, Refusal>
     requires { (longest ≤ length inverses.old) × (longest ≤ length columns.old) }
-    ensures { Begun c h.now s.now lent.others lent.words result }
+    ensures listed { ListedSent c h.now s.now lent.others lent.words columns.new result }
+    ensures by_index { (k : ℕ) → result ≡ Count k → Inverted c.m h.now inverses.new }
 {
     let lengths = Lengths {
         others: lent.others,
         places: is_all_places(c, s.choice, s.hidden.len()),
     };
     choose_columns(c, h, s.choice, lengths, inverses, columns)?;
-    let sent = sent_columns(c, h, s.hidden, lent.words, columns)?;
-    Ok(Code {
-        c,
-        h,
-        inverses,
-        cols: &columns[..sent],
-    })
+    sent_columns(c, h, s.hidden, lent.words, columns)
 }
 
-// The same in the room of a call.
+// Begins a call on words. Gives the code on the columns of the sent places, which stand in the room of the call, with the inverses.
 // Its callers match on the result: what Rattle makes of a `?` on a value with ghost fields, beside an error with a model, antt does not accept. Each
 // does so by itself, since a frame for all that takes a closure would have to say in its contract what the closure does to the call's buffers.
 pub fn begin<'a>(
@@ -215,7 +227,11 @@ pub fn begin<'a>(
 ) -> Result<Code<'a>, Refusal>
     ensures { Begun c h.now s.now lent.others lent.words result }
 {
-    let inverses = &mut room.inverses;
-    let columns = &mut room.columns;
-    begin_in(c, h, s, lent, inverses, columns)
+    let sent = list_sent_inverses(c, h, s, lent, &mut room.inverses, &mut room.columns)?;
+    Ok(Code {
+        c,
+        h,
+        inverses: &room.inverses,
+        cols: &room.columns[..sent],
+    })
 }

@@ -8,7 +8,6 @@ ghost use Rattle.refusals.specs.Ending.{Ended};
 ghost use Rattle.slices.specs.Bits.{all_bits};
 ghost use Rattle.parity.specs.Word.{syndrome_of};
 ghost use Rattle.parity.specs.Columns.{roles_of, dimension, message_of, encoding_of};
-ghost use Rattle.parity.specs.OfCode.{of_code};
 ghost use Rattle.parity.specs.Selected.{OnColumns};
 ghost use Rattle.messages.specs.MessageRules.{message_rules};
 ghost use Rattle.shortened.specs.Marks.{sent_dimension, mark_rules};
@@ -19,7 +18,7 @@ use basis::elimination::Basis;
 use field::Elem;
 use messages::{check_message, code_basis, message_columns};
 use params::Parameters;
-use parity::{Code, syndromes};
+use parity::syndromes;
 use refusals::{Refusal, Rule};
 use shortened::{check_marks, sent_places};
 use slices::{LONGEST, all_bits};
@@ -58,42 +57,60 @@ pub fn short_roles(
 }
 
 // The t sums of the word's columns into `out`, or 8.
-pub fn syndrome(code: &Code<'_>, word: &[u8], out: &mut [Elem]) -> Result<(), Refusal>
-    requires { (length word.now ≡ length code.now.cols.now) × (length out.old ≡ code.now.c.t) }
+pub fn syndrome(
+    c: Parameters,
+    h: &[Elem],
+    cols: &[Column],
+    word: &[u8],
+    out: &mut [Elem],
+) -> Result<(), Refusal>
+    requires { OnColumns c h.now cols.now × (length word.now ≡ length cols.now) × (length out.old ≡ c.t) }
     ensures { Ended result (bit_rules word.now) out.old
-        (of_code syndrome_of code.now word.now) out.new }
+        (syndrome_of c h.now cols.now word.now) out.new }
 {
     if !all_bits(word) {
         return Err(Refusal(Rule::Bit));
     }
-    syndromes::syndrome(code.c.m, code.h, code.cols, word, out);
+    syndromes::syndrome(c.m, h, cols, word, out);
     Ok(())
 }
 
 // The code word that carries the message into `word`, or 2 or 8. Its basis is on the stack only here.
 #[inline(never)]
-pub fn encode(code: &Code<'_>, message: &[u8], word: &mut [u8]) -> Result<(), Refusal>
-    requires { length word.old ≡ length code.now.cols.now }
+pub fn encode(
+    c: Parameters,
+    h: &[Elem],
+    cols: &[Column],
+    message: &[u8],
+    word: &mut [u8],
+) -> Result<(), Refusal>
+    requires { OnColumns c h.now cols.now × (length word.old ≡ length cols.now) }
     ensures { Ended result
-        (message_rules (of_code dimension code.now) (length message.now) (all_bits message.now))
-        word.old (of_code encoding_of code.now message.now) word.new }
+        (message_rules (dimension c h.now cols.now) (length message.now) (all_bits message.now))
+        word.old (encoding_of c h.now cols.now message.now) word.new }
 {
     let mut basis = Basis::new();
-    let k = code_basis(code.c, code.h, code.cols, &mut basis.rows, &mut basis.leads);
+    let k = code_basis(c, h, cols, &mut basis.rows, &mut basis.leads);
     check_message(k, message.len(), message)?;
     systematic::carry(message, &basis.rows, &basis.leads, word);
     Ok(())
 }
 
 // The word's entries at the message columns into `message`, or 2 or 8.
-pub fn message(code: &Code<'_>, word: &[u8], message: &mut [u8]) -> Result<(), Refusal>
-    requires { length word.now ≡ length code.now.cols.now }
+pub fn message(
+    c: Parameters,
+    h: &[Elem],
+    cols: &[Column],
+    word: &[u8],
+    message: &mut [u8],
+) -> Result<(), Refusal>
+    requires { OnColumns c h.now cols.now × (length word.now ≡ length cols.now) }
     ensures { Ended result
-        (message_rules (of_code dimension code.now) (length message.old) (all_bits word.now))
-        message.old (of_code message_of code.now word.now) message.new }
+        (message_rules (dimension c h.now cols.now) (length message.old) (all_bits word.now))
+        message.old (message_of c h.now cols.now word.now) message.new }
 {
     let mut leads: [u8; LONGEST] = [0; LONGEST];
-    let k = message_columns(code.c, code.h, code.cols, &mut leads);
+    let k = message_columns(c, h, cols, &mut leads);
     check_message(k, message.len(), word)?;
     systematic::take_out(word, &leads, message);
     Ok(())

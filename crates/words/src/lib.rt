@@ -48,7 +48,7 @@ pub fn syndrome(
     };
     let mut room = Room::new();
     match begin(c, h, s, lent, &mut room) {
-        Ok(code) => internal::syndrome(&code, word, out),
+        Ok(code) => internal::syndrome(code.c, code.h, code.cols, word, out),
         Err(refusal) => Err(refusal),
     }
 }
@@ -70,7 +70,7 @@ pub fn encode(
     };
     let mut room = Room::new();
     match begin(c, h, s, lent, &mut room) {
-        Ok(code) => internal::encode(&code, message, word),
+        Ok(code) => internal::encode(code.c, code.h, code.cols, message, word),
         Err(refusal) => Err(refusal),
     }
 }
@@ -92,7 +92,7 @@ pub fn message(
     };
     let mut room = Room::new();
     match begin(c, h, s, lent, &mut room) {
-        Ok(code) => internal::message(&code, word, message),
+        Ok(code) => internal::message(code.c, code.h, code.cols, word, message),
         Err(refusal) => Err(refusal),
     }
 }

@@ -15,14 +15,14 @@ roots-requires c = omega (arith, t_short (on_columns c.args.code.now).accepted.l
 
 pub syndrome-requires : goal.syndrome-requires
 syndrome-requires c =
-    let code = c.args.code.now in
-    (summed code c.requires.received.0, rows_reach code c.requires.roots_len.2)
+    let O = on_columns c.args.code.now in
+    (summed O c.requires.received.0, rows_reach O c.requires.roots_len.2)
 
 pub locate-polynomial-requires : goal.locate-polynomial-requires
 locate-polynomial-requires c =
     let O = on_columns c.args.code.now in
     let er = roots_stored O c.requires.roots_len.0 c.roots.ensures in
-    let es = c.syndrome.ensures ∙ sums_are c.args.code.now c.args.received.now c.requires.roots_len.2 in
+    let es = c.syndrome.ensures ∙ sums_are O c.args.received.now c.requires.roots_len.2 in
     (O.accepted.limits.width, root_points O er, syndrome_fits O c.args.received.now er es)
 
 pub turn_roots-requires : goal.turn_roots-requires
@@ -40,7 +40,7 @@ returns c =
     let O = on_columns c.args.code.now in
     let er = roots_stored O c.requires.roots_len.0 c.roots.ensures in
     let el = support_stored O c.requires.roots_len.1 c.support.ensures in
-    let es = c.syndrome.ensures ∙ sums_are c.args.code.now c.args.received.now c.requires.roots_len.2 in
+    let es = c.syndrome.ensures ∙ sums_are O c.args.received.now c.requires.roots_len.2 in
     let places = c.turn_roots.ensures in
     candidate_found O c.args.received.now er el es c.locate-polynomial.ensures
     places.value places.word_after

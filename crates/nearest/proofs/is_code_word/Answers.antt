@@ -17,17 +17,18 @@ use Rattle.nearest.proofs.is_code_word.Goals as goal
 
 pub all-requires-clause-callable : goal.all-requires-clause-callable
 all-requires-clause-callable c =
-    let code = c.args.code.now in
-    let S = summed code c.requires in
-    let reach = rows_reach code refl in
+    let (O, bits) = c.requires in
+    let S = summed O bits in
+    let reach = rows_reach O refl in
     grind (serving, S, reach)
 
 pub returns : goal.returns
 unfolding is_code_word
 returns c =
-    let code = c.args.code.now in
-    let row = λ (i : ℕ). eqb (signature_sum code.c.m code.h.now code.cols.now c.args.word.now i) 0 in
-    all_from_yields_List row _ _ c.all.result c.all.ensures.ran (YieldsList-from_range 0 code.c.t code.c.t (search rules) (omega arith))
+    let a = c.args in
+    let O = c.requires.0 in
+    let row = λ (i : ℕ). eqb (signature_sum a.c.m a.h.now a.cols.now a.word.now i) 0 in
+    all_from_yields_List row _ _ c.all.result c.all.ensures.ran (YieldsList-from_range 0 a.c.t a.c.t (search rules) (omega arith))
     (λ x b q k. search (rules, tests))
-    ∙ tests_below code.c.t row
-    ∙ all_cong code.c.t (λ i l. ap (λ (x : ℕ). eqb x 0) (sum_is code c.args.word.now i l))
+    ∙ tests_below a.c.t row
+    ∙ all_cong a.c.t (λ i l. ap (λ (x : ℕ). eqb x 0) (sum_is O a.word.now i l))

@@ -4,6 +4,7 @@ use lib.ListN.{length}
 use borrow.Author.Tests.{eqb-true}
 use Rattle.shortened.proofs.BegunLaws.{begun_sent, begun_refuses_both, begun_accepted, begun_long, begun_ends}
 use Rattle.slices.specs.Bits.{all_bits}
+use Rattle.parity.proofs.OfCode.{on_columns}
 use Rattle.parity.specs.Columns.{dimension, encoding_of}
 use Rattle.messages.specs.MessageRules.{message_rules}
 use Rattle.words.specs.Answers.{encode_fault, encode_answer, encode_after}
@@ -19,7 +20,7 @@ returns-in-Err c =
 pub encode-requires : goal.encode-requires
 encode-requires c =
     let begun = begun_sent (eqb (length c.args.word.now)) c.begin.ensures c.places.ensures in
-    (begun_long begun c.in-Ok.is (eqb-true _ _ (begun_accepted begun c.in-Ok.is).1))
+    (on_columns c.in-Ok.code, begun_long begun c.in-Ok.is (eqb-true _ _ (begun_accepted begun c.in-Ok.is).1))
 
 pub returns-in-Ok : goal.returns-in-Ok
 unfolding encode_answer encode_after encode_fault

@@ -4,6 +4,7 @@ use lib.Dec.{eqb}
 use lib.ListN.{length}
 use borrow.Author.Tests.{eqb-true}
 use Rattle.shortened.proofs.BegunLaws.{begun_sent, begun_refuses_both, begun_accepted, begun_long, of_begun, begun_ends}
+use Rattle.parity.proofs.OfCode.{on_columns}
 use Rattle.parity.specs.Word.{syndrome_of}
 use Rattle.words.specs.Answers.{bit_rules, syndrome_fault, syndrome_answer, syndrome_after}
 use Rattle.words.proofs.syndrome.Goals as goal
@@ -18,8 +19,11 @@ returns-in-Err c =
 pub syndrome-requires : goal.syndrome-requires
 syndrome-requires c =
     let begun = begun_sent (eqb (length c.args.word.now)) c.begin.ensures c.places.ensures in
-    let (rows, words, accepted, fits) = begun_accepted begun c.in-Ok.is in
-    (begun_long begun c.in-Ok.is (eqb-true _ _ words), eqb-true _ _ rows ∙ sym (of_begun begun c.in-Ok.is (λ c h cols. c.t)))
+    let (rows, words, accepted, fits) = begun_accepted begun c.in-Ok.is in (
+      on_columns c.in-Ok.code,
+      begun_long begun c.in-Ok.is (eqb-true _ _ words),
+      eqb-true _ _ rows ∙ sym (of_begun begun c.in-Ok.is (λ c h cols. c.t)),
+    )
 
 pub returns-in-Ok : goal.returns-in-Ok
 unfolding syndrome_answer syndrome_after syndrome_fault

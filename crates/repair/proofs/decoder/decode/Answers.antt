@@ -15,7 +15,7 @@ returns-then-not-all_bits c =
 
 pub is_code_word-requires : goal.is_code_word-requires
 is_code_word-requires c =
-    received_bits c.requires.0 (found_true c.all_bits.ensures c.if-not-all_bits.false)
+    (on_columns c.args.code.now, received_bits c.requires.0 (found_true c.all_bits.ensures c.if-not-all_bits.false))
 
 pub copy-requires : goal.copy-requires
 copy-requires c =
@@ -61,7 +61,7 @@ is_code_word-requires-2 c =
     let bits =
     received_bits c.requires.0 (found_true c.all_bits.ensures
     c.if-not-all_bits.false) in
-    (candidate_bits (on_columns c.args.code.now) c.args.received.now bits c.candidate-turned.ensures)
+    (on_columns c.args.code.now, candidate_bits (on_columns c.args.code.now) c.args.received.now bits c.candidate-turned.ensures)
 
 pub returns-then-not-is_code_word : goal.returns-then-not-is_code_word
 returns-then-not-is_code_word c =

@@ -11,7 +11,6 @@ use Rattle.slices.specs.Bits.{all_bits}
 use Rattle.basis.specs.Table.{free_at, free_count}
 use Rattle.parity.specs.Columns.{message_of}
 use Rattle.messages.specs.CodeBasis.{message_is, counted}
-use Rattle.parity.proofs.OfCode.{on_columns}
 use Rattle.parity.specs.Selected.{columns_short}
 use Rattle.messages.proofs.Meaning.{message_fits, message_due}
 use Rattle.words.proofs.Calls.{message_refused}
@@ -19,7 +18,7 @@ use Rattle.words.proofs.internal.message.Goals as goal
 
 pub message_columns-k-requires : goal.message_columns-k-requires
 message_columns-k-requires c =
-    let O = on_columns c.args.code.now in (O, omega (arith, columns_short O))
+    let O = c.requires.0 in (O, omega (arith, columns_short O))
 
 pub returns-in_err-check_message : goal.returns-in_err-check_message
 returns-in_err-check_message c =
@@ -32,8 +31,8 @@ take_out-requires c =
     let found = c.message_columns-k in
     let (long, bits) =
     message_fits found.result (length c.args.message.now) c.args.word.now (tested_none c.in_ok-check_message.ensures) in (
-      omega (arith, columns_short (on_columns c.args.code.now), c.requires),
-      long ∙ counted found.ensures ∙ ap (λ (k : ℕ). free_count k found.new.leads) (sym c.requires),
+      omega (arith, columns_short c.requires.0, c.requires.1),
+      long ∙ counted found.ensures ∙ ap (λ (k : ℕ). free_count k found.new.leads) (sym c.requires.1),
     )
 
 pub returns : goal.returns
@@ -42,6 +41,6 @@ returns c =
     let found = c.message_columns-k in
     let none = tested_none c.in_ok-check_message.ensures in
     let due = message_due found.ensures (length a.message.now) (all_bits a.word.now) (sym none) in
-    ended_done _ a.message.now (message_of a.code.now.c a.code.now.h.now a.code.now.cols.now a.word.now) due refl
-    (c.take_out.ensures ∙ ap (λ (k : ℕ). chosen k (free_at found.new.leads) (entry_of a.word.now)) c.requires
+    ended_done _ a.message.now (message_of a.c a.h.now a.cols.now a.word.now) due refl
+    (c.take_out.ensures ∙ ap (λ (k : ℕ). chosen k (free_at found.new.leads) (entry_of a.word.now)) c.requires.1
     ∙ sym (message_is found.ensures a.word.now))

@@ -6,7 +6,6 @@ use Rattle.refusals.specs.Ending.{ended_refused, ended_done}
 use Rattle.refusals.specs.RuleLaws.{fault_here, fault_none}
 use Rattle.slices.specs.BitLaws.{received_bits}
 use Rattle.words.specs.Answers.{bit_rules}
-use Rattle.parity.specs.OfCode.{of_code}
 use Rattle.parity.specs.Word.{syndrome_of}
 use Rattle.parity.proofs.OfCode.{summed, rows_reach, sums_are}
 use Rattle.words.proofs.internal.syndrome.Goals as goal
@@ -20,16 +19,16 @@ returns-then-not-all_bits c =
 
 pub syndrome-requires : goal.syndrome-requires
 syndrome-requires c =
-    let code = c.args.code.now in
-    let (long, t_long) = c.requires in (
-      summed code (received_bits long (found_true c.all_bits.ensures c.if-not-all_bits.false)),
-      rows_reach code t_long,
+    let (O, long, t_long) = c.requires in (
+      summed O (received_bits long (found_true c.all_bits.ensures c.if-not-all_bits.false)),
+      rows_reach O t_long,
     )
 
 pub returns : goal.returns
 unfolding bit_rules
 returns c =
     let a = c.args in
-    ended_done {k = 0} (bit_rules a.word.now) a.out.now (of_code syndrome_of a.code.now a.word.now)
+    let (O, long, t_long) = c.requires in
+    ended_done {k = 0} (bit_rules a.word.now) a.out.now (syndrome_of a.c a.h.now a.cols.now a.word.now)
     (sym (fault_none _ (found_true c.all_bits.ensures c.if-not-all_bits.false, tt))) refl
-    (c.syndrome.ensures ∙ sums_are a.code.now a.word.now c.requires.1)
+    (c.syndrome.ensures ∙ sums_are O a.word.now t_long)
