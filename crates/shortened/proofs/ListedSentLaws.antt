@@ -6,8 +6,10 @@ use Rattle.refusals.specs.Counted.{Count, Refused}
 use Rattle.refusals.specs.Rules.{fault}
 use Rattle.slices.specs.Lengths.{longest}
 use Rattle.params.specs.declared.Parameters.{Parameters}
+use Rattle.params.specs.Code.{Accepted}
 use Rattle.parity.specs.Selected.{OnColumns}
 use Rattle.columns.proofs.ListedLaws.{found_due, found_none}
+use Rattle.shortened.specs.Fits.{Fits}
 use Rattle.shortened.specs.ListedSent.{ListedSent}
 use Rattle.shortened.specs.Setting.{Setting, places, columns_of, setting_rules}
 use Rattle.shortened.proofs.SettingLaws.{setting_accepted, fits_columns, places_short}
@@ -26,16 +28,17 @@ module _ {c : Parameters} {h : List ℕ} {s : Setting} {others words : Bool} {co
     sent_places : k ≡ places s
     sent_places = (found_none (setting_rules c h s others words) (places s) L.answer e).1
 
+    sent_accepted : Accepted c h × Fits c h s
+    sent_accepted = let (o, w, A, F) = setting_accepted c h s others words sent_none in (A, F)
+
     pub sent_numbered : take k columns ≡ columns_of c s
     sent_numbered = ap (λ (i : ℕ). take i columns) sent_places ∙ L.numbered sent_none
 
     pub sent_on_columns : OnColumns c h (take k columns)
-    sent_on_columns =
-        let (o, w, A, F) = setting_accepted c h s others words sent_none in subst (OnColumns c h) (sym sent_numbered) (fits_columns A s F)
+    sent_on_columns = let (A, F) = sent_accepted in subst (OnColumns c h) (sym sent_numbered) (fits_columns A s F)
 
     pub sent_few : k ≤ longest
-    sent_few =
-        let (o, w, A, F) = setting_accepted c h s others words sent_none in subst (λ (i : ℕ). i ≤ longest) (sym sent_places) (places_short A s F)
+    sent_few = let (A, F) = sent_accepted in subst (λ (i : ℕ). i ≤ longest) (sym sent_places) (places_short A s F)
 
 -- the same of the setting that another names
 pub listed_at : {c : Parameters} {h : List ℕ} {s s' : Setting} {others words : Bool} {columns : List ℕ} {found : Counted}
